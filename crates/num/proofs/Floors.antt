@@ -1,0 +1,203 @@
+-- `floorOf` in each of the seven cases that `floor` tells apart, and `ceilOf` by `floorOf`. Assumes nothing.
+use mathlib.Core.Path.{_≡_, refl, sym, ap, _∙_}
+use Prim.Native.Nat.{ℕ, zero, suc, _+_, _-_, _*_, _/_, _%_, _^_, _≤_, _<_, min}
+use native.Mathlib.Nat.{mul-one, mul-lt-mul-of-pos-right, mul-le-mul-right, div-add-mod', div-lt-iff-lt-mul, zero-mod, pow-suc, min-eq-left}
+use native.Mathlib.Omega.{arith}
+use mathlib.Core.Bool.{Bool, true, false, not, cond, true≢false}
+use lib.IntN.{ℤ, pos, negsuc}
+use lib.Dec.{T, ltb, eqb, lit≤, lit<}
+use lib.Pow.{pow-pos}
+use borrow.Author.Tests.{ltb-true, ltb-false, eqb-true, eqb-false, lt-ltb, le-ltb, eq-eqb, ne-eqb}
+use lib.Ieee.{Float, nan, inf, fin, binary64, up, down, neg, lt, add, ofInt, toUnsigned, fits, round}
+use lib.Ieee.Fits.{down-pos}
+use lib.Ieee.Exact.{HasValue}
+use lib.Ieee.Back.{round-whole}
+use Rattle.num.specs.Float.{ofU64, toU64, cut, isWhole, floorOf, ceilOf}
+use Rattle.num.proofs.Value.{held, above-of-value, below-of-value}
+use Rattle.num.proofs.Values.{add-value}
+
+-- ---- a whole number up to 2 ^ 53 is a float exactly, and one more is a sum
+pub whole-value : (n : ℕ) → n ≤ 2 ^ 53 → HasValue (ofU64 n) false n 1
+unfolding ofInt
+whole-value n h = round-whole binary64 false n h
+
+pub whole-next : (n : ℕ) → n ≤ 2 ^ 53 → add binary64 (ofU64 n) (fin false 1 (pos 0)) ≡ ofU64 (n + 1)
+unfolding ofInt
+whole-next n h =
+    add-value binary64 (ofU64 n) (fin false 1 (pos 0)) n 1 1 1 (lit< tt) (lit< tt) (whole-value n h) (refl, refl)
+    ∙ ap (λ (z : ℕ). round binary64 false (z + 1) 1) (mul-one n)
+
+-- ---- the order of a positive m * 2 ^ e with its whole part n, and with 2 ^ 52
+not-zero : (r : ℕ) → (r ≡ 0 → ⊥) → 0 < r
+not-zero zero h = absurd (h refl)
+not-zero (suc r) h = omega arith
+
+part : (q d r a : ℕ) → q * d + r ≡ a → not (eqb r 0) ≡ ltb (q * d) a
+part q d r a e = go (eqb r 0) refl
+  where
+    go : (b : Bool) → eqb r 0 ≡ b → not b ≡ ltb (q * d) a
+    go true h = sym (le-ltb (q * d) a (omega (arith, eqb-true r 0 h)))
+    go false h = sym (lt-ltb (q * d) a (omega (arith, not-zero r (eqb-false r 0 h))))
+
+-- by any float y that is n
+below-by : (y : Float) (n m : ℕ) (e : ℤ) → HasValue y false n 1 → lt y (fin false m e) ≡ ltb (n * down e) (m * up e)
+unfolding lt
+below-by nan n m e v = absurd v
+below-by (inf s) n m e v = absurd v
+below-by (fin true k d) n m e v = absurd (true≢false (v .0))
+below-by (fin false k d) n m e v =
+    let w : k * up d ≡ n * down d = sym (mul-one (k * up d)) ∙ v .1 in
+    let h : k * up d * down e ≡ n * down e * down d = ap (λ (z : ℕ). z * down e) w ∙ omega arith in
+    ap (λ (z : ℕ). ltb z (m * up e * down d)) h ∙ scaled (n * down e) (m * up e) (down d) (down-pos d)
+  where
+    scaled : (a b c : ℕ) → 0 < c → ltb (a * c) (b * c) ≡ ltb a b
+    scaled a b c C = go (ltb a b) refl
+      where
+        go : (t : Bool) → ltb a b ≡ t → ltb (a * c) (b * c) ≡ t
+        go true h = lt-ltb (a * c) (b * c) (mul-lt-mul-of-pos-right (ltb-true a b h) C)
+        go false h = le-ltb (a * c) (b * c) (mul-le-mul-right c (ltb-false a b h))
+
+small : (m : ℕ) (e : ℤ) → lt (fin false m e) (fin false 1 (pos 52)) ≡ true → m * up e < 2 ^ 52 * down e
+unfolding lt
+small m e h = omega (arith, ltb-true (m * up e * 1) (1 * 2 ^ 52 * down e) h)
+
+large : (m : ℕ) (e : ℤ) → lt (fin false m e) (fin false 1 (pos 52)) ≡ false → 2 ^ 52 * down e ≤ m * up e
+unfolding lt
+large m e h = omega (arith, ltb-false (m * up e * 1) (1 * 2 ^ 52 * down e) h)
+
+cut-small : (m : ℕ) (e : ℤ) → m * up e < 2 ^ 52 * down e → cut m e < 2 ^ 52
+cut-small m e h = div-lt-iff-lt-mul (down-pos e) .1 h
+
+-- the cast is the whole part, and the test w < x says whether there is a fraction
+cast : (m : ℕ) (e : ℤ) → m * up e < 2 ^ 52 * down e → toU64 (fin false m e) ≡ cut m e
+unfolding toUnsigned
+cast m e h = min-eq-left (omega (arith, cut-small m e h))
+
+test : (m : ℕ) (e : ℤ) → m * up e < 2 ^ 52 * down e → lt (ofU64 (toU64 (fin false m e))) (fin false m e) ≡ not (isWhole m e)
+test m e h =
+    ap (λ (z : ℕ). lt (ofU64 z) (fin false m e)) (cast m e h)
+    ∙ below-by (ofU64 (cut m e)) (cut m e) m e (whole-value (cut m e) (omega (arith, cut-small m e h)))
+    ∙ sym (part (cut m e) (down e) (m * up e % down e) (m * up e) (div-add-mod' (m * up e) (down e)))
+
+flip : (b c : Bool) → not b ≡ c → b ≡ not c
+flip true true h = absurd (true≢false (sym h))
+flip true false h = refl
+flip false true h = refl
+flip false false h = absurd (true≢false h)
+
+-- ---- from 2 ^ 52 on every float is whole
+no-fraction : (m k : ℕ) → m < 2 ^ 53 → 2 ^ 52 * 2 ^ suc k ≤ m * 1 → ⊥
+no-fraction m k M h = omega (arith, pow-suc 2 k, pow-pos k)
+
+pub large-whole : (s : Bool) (m : ℕ) (e : ℤ) → T (fits binary64 (fin s m e)) → 2 ^ 52 * down e ≤ m * up e → isWhole m e ≡ true
+large-whole s m (pos k) f h = eq-eqb (m * 2 ^ k % 1) 0 (omega arith)
+large-whole s zero (negsuc k) f h = absurd (no-fraction 0 k (lit≤ tt) h)
+large-whole s (suc m) (negsuc k) f h = absurd (no-fraction (suc m) k (held s m (negsuc k) f .0) h)
+
+zero-whole : (m : ℕ) (e : ℤ) → m * up e ≡ 0 → isWhole m e ≡ true
+zero-whole m e h = eq-eqb (m * up e % down e) 0 (ap (λ (z : ℕ). z % down e) h ∙ zero-mod (down e))
+
+-- ---- what lies above 0, and below it
+above : (P : Float → Type 0) → P (inf false) → ((m : ℕ) (e : ℤ) → P (fin false m e)) → (x : Float) → lt (fin false 0 (pos 0)) x ≡ true → P x
+unfolding lt
+above P i f nan h = absurd (true≢false (sym h))
+above P i f (inf true) h = absurd (true≢false (sym h))
+above P i f (inf false) h = i
+above P i f (fin true m e) h = absurd (true≢false (sym h))
+above P i f (fin false m e) h = f m e
+
+under : (P : Float → Type 0) → P (inf true) → ((m : ℕ) (e : ℤ) → P (fin true m e)) → (x : Float) → lt x (fin false 0 (pos 0)) ≡ true → P x
+unfolding lt
+under P i f nan h = absurd (true≢false (sym h))
+under P i f (inf true) h = i
+under P i f (inf false) h = absurd (true≢false (sym h))
+under P i f (fin true m e) h = f m e
+under P i f (fin false m e) h = absurd (true≢false (sym h ∙ le-ltb (m * up e * 1) (0 * down e) (omega (arith, ltb-true (m * up e * 1) (0 * down e) h))))
+
+abbrev limit : Float
+limit = fin false 1 (pos 52)
+
+-- the whole part of x, as a float
+abbrev part-of : Float → Float
+part-of x = ofU64 (toU64 x)
+
+pub in-range : (x : Float) → lt (fin false 0 (pos 0)) x ≡ true → lt x limit ≡ true → T (lt (fin true 1 (pos 0)) x) × T (lt x (fin false 1 (pos 64)))
+in-range =
+    above (λ (x : Float). lt x limit ≡ true → T (lt (fin true 1 (pos 0)) x) × T (lt x (fin false 1 (pos 64)))) (λ b. absurd (true≢false (sym (unfold lt in b))))
+    (λ m e b. (
+      above-of-value (fin false m e) (m * up e) (down e) (refl, refl),
+      below-of-value 64 (fin false m e) (m * up e) (down e) (down-pos e) (refl, refl) (omega (arith, small m e b)),
+    ))
+
+pub positive-fraction : (x : Float) → lt (fin false 0 (pos 0)) x ≡ true → lt x limit ≡ true → lt (part-of x) x ≡ true → part-of x ≡ floorOf x
+unfolding floorOf
+positive-fraction =
+    above (λ (x : Float). lt x limit ≡ true → lt (part-of x) x ≡ true → part-of x ≡ floorOf x) (λ b. absurd (true≢false (sym (unfold lt in b))))
+    (λ m e b w. rw (flip (isWhole m e) true (sym (test m e (small m e b)) ∙ w), cast m e (small m e b)))
+
+pub positive-whole : (x : Float) → lt (fin false 0 (pos 0)) x ≡ true → lt x limit ≡ true → lt (part-of x) x ≡ false → x ≡ floorOf x
+unfolding floorOf
+positive-whole =
+    above (λ (x : Float). lt x limit ≡ true → lt (part-of x) x ≡ false → x ≡ floorOf x) (λ b. absurd (true≢false (sym (unfold lt in b))))
+    (λ m e b w. rw (flip (isWhole m e) false (sym (test m e (small m e b)) ∙ w)))
+
+pub positive-large : (x : Float) → lt (fin false 0 (pos 0)) x ≡ true → T (fits binary64 x) → lt x limit ≡ false → x ≡ floorOf x
+unfolding floorOf
+positive-large =
+    above (λ (x : Float). T (fits binary64 x) → lt x limit ≡ false → x ≡ floorOf x) (λ f b. refl)
+    (λ m e f b. rw (large-whole false m e f (large m e b)))
+
+pub negative-above : (x : Float) → lt x (fin false 0 (pos 0)) ≡ true → lt (fin false 0 (pos 0)) (neg x) ≡ true
+unfolding lt neg
+negative-above x h =
+    under (λ (y : Float). lt y (fin false 0 (pos 0)) ≡ true → lt (fin false 0 (pos 0)) (neg y) ≡ true) (λ k. refl)
+    (λ m e k. lt-ltb (0 * down e) (m * up e * 1) (omega (arith, ltb-true 0 (m * up e * 1 + 0 * down e) k))) x h h
+
+pub negative-fraction : (x : Float) → lt x (fin false 0 (pos 0)) ≡ true → lt (neg x) limit ≡ true → lt (part-of (neg x)) (neg x) ≡ true → neg (add binary64 (part-of (neg x)) (fin false 1 (pos 0))) ≡ floorOf x
+unfolding floorOf neg
+negative-fraction =
+    under (λ (x : Float). lt (neg x) limit ≡ true → lt (part-of (neg x)) (neg x) ≡ true → neg (add binary64 (part-of (neg x)) (fin false 1 (pos 0))) ≡ floorOf x) (λ b. absurd (true≢false (sym (unfold lt in b))))
+    (λ m e b w.
+      let l = small m e b in
+      rw (flip (isWhole m e) true (sym (test m e l) ∙ w), cast m e l, whole-next (cut m e) (omega (arith, cut-small m e l))))
+
+pub negative-whole : (x : Float) → lt x (fin false 0 (pos 0)) ≡ true → lt (neg x) limit ≡ true → lt (part-of (neg x)) (neg x) ≡ false → x ≡ floorOf x
+unfolding floorOf neg
+negative-whole =
+    under (λ (x : Float). lt (neg x) limit ≡ true → lt (part-of (neg x)) (neg x) ≡ false → x ≡ floorOf x) (λ b. absurd (true≢false (sym (unfold lt in b))))
+    (λ m e b w. rw (flip (isWhole m e) false (sym (test m e (small m e b)) ∙ w)))
+
+pub negative-large : (x : Float) → lt x (fin false 0 (pos 0)) ≡ true → T (fits binary64 x) → lt (neg x) limit ≡ false → x ≡ floorOf x
+unfolding floorOf neg
+negative-large =
+    under (λ (x : Float). T (fits binary64 x) → lt (neg x) limit ≡ false → x ≡ floorOf x) (λ f b. refl)
+    (λ m e f b. rw (large-whole true m e f (large m e b)))
+
+-- ---- NaN and the zeros
+pub neither : (x : Float) → lt (fin false 0 (pos 0)) x ≡ false → lt x (fin false 0 (pos 0)) ≡ false → x ≡ floorOf x
+unfolding floorOf lt
+neither nan a b = refl
+neither (inf s) a b = refl
+neither (fin true m e) a b = rw (zero-whole m e (omega (arith, ltb-false 0 (m * up e * 1 + 0 * down e) b)))
+neither (fin false m e) a b = rw (zero-whole m e (omega (arith, ltb-false (0 * down e) (m * up e * 1) a)))
+
+-- ---- the ceiling is the floor of -x, negated
+neg-neg : (x : Float) → neg (neg x) ≡ x
+unfolding neg
+neg-neg nan = refl
+neg-neg (inf true) = refl
+neg-neg (inf false) = refl
+neg-neg (fin true m e) = refl
+neg-neg (fin false m e) = refl
+
+neg-cond : (b : Bool) (x y : Float) → neg (cond b x y) ≡ cond b (neg x) (neg y)
+neg-cond true x y = refl
+neg-cond false x y = refl
+
+pub ceil-floor : (x : Float) → neg (floorOf (neg x)) ≡ ceilOf x
+unfolding floorOf ceilOf neg
+ceil-floor nan = refl
+ceil-floor (inf true) = refl
+ceil-floor (inf false) = refl
+ceil-floor (fin true m e) = neg-cond (isWhole m e) (fin false m e) (ofU64 (cut m e))
+ceil-floor (fin false m e) = neg-cond (isWhole m e) (fin true m e) (neg (ofU64 (cut m e + 1))) ∙ ap (λ (y : Float). cond (isWhole m e) (fin false m e) y) (neg-neg (ofU64 (cut m e + 1)))
