@@ -1,13 +1,13 @@
 -- A finite number less itself is 0, and what is no finite number is NaN. Assumes nothing.
-use mathlib.Core.Path.{_≡_, refl, ap, _∙_}
-use Prim.Native.Nat.{ℕ, _-_, _*_, _<_}
-use native.Mathlib.Nat.{mul-pos, sub-self, zero-mul}
+use mathlib.Core.Path.{_≡_, refl, _∙_}
+use Prim.Native.Nat.{ℕ, _*_, _<_}
+use native.Mathlib.Nat.{mul-pos, sub-self}
 use native.Mathlib.Omega.{arith}
-use mathlib.Core.Bool.{Bool, true, false, _&&_}
+use mathlib.Core.Bool.{Bool, true, false}
 use lib.Dec.{lit<}
 use lib.IntN.{pos}
 use borrow.Author.Tests.{le-ltb}
-use lib.Ieee.{Float, nan, inf, fin, Format, binary64, up, down, sub, eq, round}
+use lib.Ieee.{Float, nan, inf, fin, binary64, up, down, sub, eq, round}
 use lib.Ieee.Fits.{down-pos}
 use lib.Ieee.Scale.{round-same}
 use Rattle.num.specs.Float.{isFinite}

@@ -1,31 +1,19 @@
 -- `floorOf` in each of the seven cases that `floor` tells apart, and `ceilOf` by `floorOf`. Assumes nothing.
 use mathlib.Core.Path.{_≡_, refl, sym, ap, _∙_}
-use Prim.Native.Nat.{ℕ, zero, suc, _+_, _-_, _*_, _/_, _%_, _^_, _≤_, _<_, min}
+use Prim.Native.Nat.{ℕ, zero, suc, _+_, _*_, _%_, _^_, _≤_, _<_}
 use native.Mathlib.Nat.{mul-one, mul-lt-mul-of-pos-right, mul-le-mul-right, div-add-mod', div-lt-iff-lt-mul, zero-mod, pow-suc, min-eq-left}
 use native.Mathlib.Omega.{arith}
 use mathlib.Core.Bool.{Bool, true, false, not, cond, true≢false}
 use lib.IntN.{ℤ, pos, negsuc}
-use lib.Dec.{T, ltb, eqb, lit≤, lit<}
+use lib.Dec.{T, ltb, eqb, lit≤}
 use lib.Pow.{pow-pos}
-use borrow.Author.Tests.{ltb-true, ltb-false, eqb-true, eqb-false, lt-ltb, le-ltb, eq-eqb, ne-eqb}
-use lib.Ieee.{Float, nan, inf, fin, binary64, up, down, neg, lt, add, ofInt, toUnsigned, fits, round}
+use borrow.Author.Tests.{ltb-true, ltb-false, eqb-true, eqb-false, lt-ltb, le-ltb, eq-eqb}
+use lib.Ieee.{Float, nan, inf, fin, binary64, up, down, neg, lt, add, toUnsigned, fits}
 use lib.Ieee.Fits.{down-pos}
 use lib.Ieee.Exact.{HasValue}
-use lib.Ieee.Back.{round-whole}
 use Rattle.num.specs.Float.{ofU64, toU64, cut, isWhole, floorOf, ceilOf}
 use Rattle.num.proofs.Value.{held, above-of-value, below-of-value}
-use Rattle.num.proofs.Values.{add-value}
-
--- ---- a whole number up to 2 ^ 53 is a float exactly, and one more is a sum
-pub whole-value : (n : ℕ) → n ≤ 2 ^ 53 → HasValue (ofU64 n) false n 1
-unfolding ofInt
-whole-value n h = round-whole binary64 false n h
-
-pub whole-next : (n : ℕ) → n ≤ 2 ^ 53 → add binary64 (ofU64 n) (fin false 1 (pos 0)) ≡ ofU64 (n + 1)
-unfolding ofInt
-whole-next n h =
-    add-value binary64 (ofU64 n) (fin false 1 (pos 0)) n 1 1 1 (lit< tt) (lit< tt) (whole-value n h) (refl, refl)
-    ∙ ap (λ (z : ℕ). round binary64 false (z + 1) 1) (mul-one n)
+use Rattle.num.proofs.Whole.{whole-value, whole-next}
 
 -- ---- the order of a positive m * 2 ^ e with its whole part n, and with 2 ^ 52
 not-zero : (r : ℕ) → (r ≡ 0 → ⊥) → 0 < r
@@ -158,8 +146,8 @@ unfolding floorOf neg
 negative-fraction =
     under (λ (x : Float). lt (neg x) limit ≡ true → lt (part-of (neg x)) (neg x) ≡ true → neg (add binary64 (part-of (neg x)) (fin false 1 (pos 0))) ≡ floorOf x) (λ b. absurd (true≢false (sym (unfold lt in b))))
     (λ m e b w.
-      let l = small m e b in
-      rw (flip (isWhole m e) true (sym (test m e l) ∙ w), cast m e l, whole-next (cut m e) (omega (arith, cut-small m e l))))
+    let l = small m e b in
+    rw (flip (isWhole m e) true (sym (test m e l) ∙ w), cast m e l, whole-next (cut m e) (omega (arith, cut-small m e l))))
 
 pub negative-whole : (x : Float) → lt x (fin false 0 (pos 0)) ≡ true → lt (neg x) limit ≡ true → lt (part-of (neg x)) (neg x) ≡ false → x ≡ floorOf x
 unfolding floorOf neg

@@ -3,8 +3,7 @@ use mathlib.Core.Path.{_≡_, sym, ap, _∙_, subst}
 use mathlib.Core.Bool.{Bool, true, false}
 use lib.Dec.{T}
 use lib.IntN.{pos}
-use lib.Ieee.{Float, fin, binary64, neg, add, lt, ofBits, fits}
-use Rattle.num.specs.Float.{ofU64, toU64, floorOf}
+use lib.Ieee.{Float, fin, binary64, neg, add, ofBits, fits}
 use Rattle.num.proofs.Floors.{positive-fraction, positive-whole, positive-large, negative-above, negative-fraction, negative-whole, negative-large, neither}
 use Rattle.num.proofs.float.floor.Statement.{statement}
 use Rattle.num.proofs.float.floor.Tie as tie

@@ -1,6 +1,5 @@
 -- `num::float::max` meets its contract. Assumes nothing.
 use mathlib.Core.Path.{_∙_}
-use lib.Ieee.{isNan}
 use Rattle.num.specs.Float.{maxOf}
 use Rattle.num.proofs.Exponential.{differs}
 use Rattle.num.proofs.float.max.Statement.{statement}
