@@ -1,0 +1,7 @@
+-- Laws of `sorted`, of counts, and of the steps of selection and of sorting.
+pub mod Sorting
+pub mod Tallies
+pub mod Bracket
+pub mod Shares
+pub mod Swaps
+pub mod Sinking
