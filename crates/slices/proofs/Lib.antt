@@ -1,4 +1,6 @@
 -- Laws of `sorted`, of counts, and of the steps of selection and of sorting.
+pub mod Lists
+pub mod Search
 pub mod Sorting
 pub mod Tallies
 pub mod Bracket

@@ -1,2 +1,4 @@
 -- The definitions that the contracts cite.
+pub mod Lists
+pub mod Search
 pub mod Sorted

@@ -1,0 +1,5 @@
+-- Laws that belong to no one function.
+pub mod Edges
+pub mod Capacity
+pub mod Percentile
+pub mod Search

@@ -1,0 +1,5 @@
+-- The definitions that the contracts cite.
+pub mod Answer
+pub mod Edges
+pub mod Capacity
+pub mod Percentile

@@ -1,0 +1,32 @@
+// Flow-aware fee projection, after fee_est.rs.
+mod capacity;
+mod edges;
+mod percentile;
+
+pub use capacity::BLOCK_WEIGHT_WU;
+pub use capacity::CONFIDENCE_FAR;
+pub use capacity::CONFIDENCE_NEAR;
+pub use capacity::FILL_AT_FAR;
+pub use capacity::FILL_AT_NEAR;
+pub use capacity::INFLOW_HORIZON_CAP_SECS;
+pub use capacity::LAMBDA_AT_FAR;
+pub use capacity::LAMBDA_AT_NEAR;
+pub use capacity::SECONDS_PER_BLOCK;
+pub use capacity::capacity_wu;
+pub use capacity::effective_capacity_wu;
+pub use capacity::horizon_secs;
+pub use capacity::inclusion_confidence;
+pub use capacity::inflow_horizon_secs;
+pub use capacity::inflow_suffix_wu;
+pub use capacity::min_rate_for_capacity;
+pub use edges::FEE_BUCKET_EDGES_SAT_PER_KVB;
+pub use edges::FLOW_BUCKET_DECADES;
+pub use edges::FLOW_BUCKET_EDGE_COUNT;
+pub use edges::FLOW_BUCKETS_PER_DECADE;
+pub use edges::bucket_count;
+pub use edges::bucket_index;
+pub use edges::default_candidate_rates;
+pub use edges::fine_candidate_rates;
+pub use edges::first_bucket_above;
+pub use edges::flow_bucket_edges;
+pub use percentile::percentile_sat;

@@ -1,0 +1,3 @@
+// The fee estimator of rbitcoin-mempool.
+pub mod answer;
+pub mod fee_est;

@@ -1,0 +1,8 @@
+-- The first place at which a test holds. Definitions only.
+use Prim.Native.Nat.{ℕ, zero, suc}
+use mathlib.Core.Bool.{Bool, cond}
+
+-- of n places from i on, the first at which p holds, and i + n where there is none: `position`, and `partition_point` of a test that changes once
+unfoldable pub seek : (ℕ → Bool) → ℕ → ℕ → ℕ
+seek p i zero = i
+seek p i (suc n) = cond (p i) i (seek p (suc i) n)
