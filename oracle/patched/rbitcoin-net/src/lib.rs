@@ -1,0 +1,3 @@
+//! The published fee module of `rbitcoin-net`.
+
+pub mod fee_history;
