@@ -4,3 +4,4 @@
 // `lib.Ieee` does: `fin s m e` is m * 2 ^ e, negative where s is true.
 pub mod exp;
 pub mod float;
+pub mod ln;
