@@ -17,7 +17,7 @@ use Rattle.num.proofs.Power.{no-nan}
 use Rattle.num.specs.Ln.{fromOne, significandOf, exponentOf}
 
 -- ---- how many digits a number has
-pow-le-back : (a l : ℕ) → 2 ^ a ≤ 2 ^ l → a ≤ l
+pub pow-le-back : (a l : ℕ) → 2 ^ a ≤ 2 ^ l → a ≤ l
 pow-le-back a l h = le-of-suc-le-suc (lt-of-not-le (λ (g : suc l ≤ a). lt-irrefl (2 ^ l) (lt-of-lt-of-le (pow-lt g) h)))
 
 pow-lt-back : (a l : ℕ) → 2 ^ a < 2 ^ l → a < l
@@ -27,11 +27,11 @@ size-is : (n s : ℕ) → 2 ^ s ≤ n → n < 2 ^ suc s → size n ≡ suc s
 size-is n s a b = le-antisymm (size-le n (suc s) b) (pow-lt-back s (size n) (lt-of-le-of-lt a (size-lt n)))
 
 -- m has suc L digits
-record Digits (m L : ℕ) : Type 0 where
-  low : 2 ^ L ≤ m
-  high : m < 2 ^ suc L
+pub record Digits (m L : ℕ) : Type 0 where
+  pub low : 2 ^ L ≤ m
+  pub high : m < 2 ^ suc L
 
-digits : (m : ℕ) → Digits (suc m) (size (suc m) - 1)
+pub digits : (m : ℕ) → Digits (suc m) (size (suc m) - 1)
 digits m =
     let s = size (suc m) in
     let h = size-lt (suc m) in
@@ -69,7 +69,7 @@ module _ (m : ℕ) (e : ℤ) (j L : ℕ) (u : up e * 2 ^ 1074 ≡ 2 ^ j * down e
   digits-field = rw pattern (omega (arith, leading))
 
 -- ---- the significand, m * 2 ^ -L
-unit : (L : ℕ) → (up (minus 0 L) ≡ 1) × (down (minus 0 L) ≡ 2 ^ L)
+pub unit : (L : ℕ) → (up (minus 0 L) ≡ 1) × (down (minus 0 L) ≡ 2 ^ L)
 unit zero = (refl, refl)
 unit (suc i) =
     let e : suc i - 1 ≡ i = omega arith in

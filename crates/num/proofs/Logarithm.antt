@@ -1,16 +1,15 @@
 -- `terms`, a step at a time; `lnOf` in each of the three cases that `ln` tells apart; and that a whole number's float is 0 or from 1 up. Assumes nothing.
 use mathlib.Core.Path.{_≡_, refl, ap}
 use Prim.Native.Nat.{ℕ, zero, suc, _+_, _-_, _*_, _^_, _<_, _≤_}
-use native.Mathlib.Nat.{lt-irrefl, one-mul}
+use native.Mathlib.Nat.{lt-irrefl}
 use native.Mathlib.Omega.{arith}
 use mathlib.Core.Bool.{true, false}
 use lib.IntN.{pos}
 use lib.Dec.{T, le→leb, lit≤}
 use lib.Ieee.{Float, nan, inf, fin, binary64, up, down, add, mul, le, ofInt, round}
 use lib.Ieee.Bits.{is-true}
-use lib.Ieee.Order.{round-mono}
-use Rattle.num.proofs.Value.{reached}
 use Rattle.num.proofs.Bounded.{UpTo, round-up-to}
+use Rattle.num.proofs.Sizes.{AtLeast, round-at-least}
 use Rattle.num.specs.Ln.{sqrt2, half, fromOne, significandOf, exponentOf, ratio, reciprocal, terms, lnBy, lnOf}
 
 pub step : (z t : Float) (j : ℕ) → 0 < j → terms z (j - 1) (add binary64 (reciprocal (j - 1)) (mul binary64 z t)) ≡ terms z j t
@@ -26,25 +25,21 @@ unfolding terms
 done z t zero h = refl
 done z t (suc j) h = absurd (lt-irrefl 0 (omega arith))
 
-at-one : round binary64 false 1 1 ≡ fin false 1 (pos 0)
-unfolding round
-at-one = refl
-
 -- ---- a whole number from 1 up, as a float
-from-one-at : (x : Float) → UpTo (2 ^ 64) 1 x → T (le (fin false 1 (pos 0)) x) → T (fromOne x)
+from-one-at : (x : Float) → UpTo (2 ^ 64) 1 x → AtLeast 1 1 x → T (fromOne x)
 from-one-at nan u h = absurd u
 from-one-at (inf s) u h = absurd u
 from-one-at (fin true m e) u h = absurd u
-from-one-at (fin false m e) u h = le→leb (down e) (m * up e) (rw one-mul at (reached 0 m e (is-true (le (fin false 1 (pos 0)) (fin false m e)) h)))
+from-one-at (fin false m e) u h = le→leb (down e) (m * up e) (omega arith)
 
-module _ (n : ℕ) (big : n < 2 ^ 64) where
+module _ (n : ℕ) (h : n < 2 ^ 64) where
   pub up-to-64 : UpTo (2 ^ 64) 1 (ofInt binary64 (pos n))
   unfolding ofInt
   up-to-64 = round-up-to 1 (pos 64) (unfold round in refl) n 1 (lit≤ tt) (omega arith)
 
   pub from-one : 0 < n → T (fromOne (ofInt binary64 (pos n)))
   unfolding ofInt
-  from-one h = from-one-at (round binary64 false n 1) up-to-64 (rw at-one at (round-mono binary64 1 1 n 1 (lit≤ tt) (lit≤ tt) (omega arith)))
+  from-one l = from-one-at (round binary64 false n 1) up-to-64 (round-at-least 1 (pos 0) (unfold round in refl) n 1 (lit≤ tt) (omega arith))
 
 -- ---- the cases of `lnOf`
 pub at-zero : inf true ≡ lnOf (ofInt binary64 (pos 0))

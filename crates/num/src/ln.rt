@@ -14,7 +14,7 @@ const LO: f64 = 1.9082149292705877e-10;
 
 const LN_1_25: f64 = 0.22314355131420974;
 
-// The significand of x, from 1 to below 2: the digits of its bit pattern below the exponent of 1.
+// The significand of x, from 1 to below 2: x's digits with the exponent field of 1.0.
 fn significand(x: f64) -> f64
     requires { ⌜ T (fromOne x) ⌝ }
     ensures { λ r. ⌜ r ≡ significandOf x ⌝ }
@@ -22,7 +22,7 @@ fn significand(x: f64) -> f64
     f64::from_bits(f64::to_bits(x) % 0x10_0000_0000_0000 + 0x3FF0_0000_0000_0000)
 }
 
-// The exponent of x, which its bit pattern has raised by 1023.
+// The exponent of x: the exponent field less 1023.
 fn exponent(x: f64) -> u32
     requires { ⌜ T (fromOne x) ⌝ }
     ensures { λ r. ⌜ r ≡ exponentOf x ⌝ }
@@ -52,7 +52,7 @@ fn sum(m: f64, k: u32) -> f64
     k * HI + (2.0 * s * series(s * s) + k * LO)
 }
 
-// A stand-in for ln n.
+// A stand-in for ln n, minus infinity at 0.
 pub fn ln(n: u64) -> f64
     ensures { λ r. ⌜ r ≡ lnOf (ofInt binary64 (pos n)) ⌝ }
 {
