@@ -4,5 +4,6 @@
 // `lib.Ieee` does: `fin s m e` is m * 2 ^ e, negative where s is true.
 pub mod exp;
 pub mod float;
+pub mod ln;
 pub mod wide;
 pub mod word;
