@@ -1,3 +1,6 @@
 // The functions under names that C and Rust can link, with the prefix `juleyomu_`. Each hands its
-// arguments on and promises what the function behind it promises.
+// arguments on and promises what the function behind it promises. A slice passes as a pointer and a
+// length, an array as a pointer.
+pub mod capacity;
 pub mod numbers;
+pub mod rate;
