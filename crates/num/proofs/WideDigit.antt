@@ -1,5 +1,5 @@
 -- One digit of 32 bits of a quotient, by a divisor whose top bit is set: the trial digit is the quotient by the divisor's upper half, and falls until it is right. Assumes nothing.
-use mathlib.Core.Path.{_≡_, ap}
+use mathlib.Core.Path.{_≡_}
 use Prim.Native.Nat.{ℕ, zero, suc, _+_, _-_, _*_, _/_, _%_, _^_, _≤_, _<_}
 use native.Mathlib.Nat.{mul-le-mul, div-add-mod', div-lt-iff-lt-mul, lt-div-mul-add}
 use native.Mathlib.Omega.{arith}

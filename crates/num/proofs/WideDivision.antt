@@ -12,8 +12,9 @@ plain n {d} h = record { whole = div-add-mod' n d; below = mod-lt n h }
 pub plain-below : {n d : ℕ} → n < d → IsDivision n d 0 n
 plain-below h = record { whole = omega arith; below = h }
 
-pub lower-word : {h d : ℕ} (l : ℕ) → h ≡ 0 → 0 < d → IsDivision (h * 2 ^ 64 + l) d (l / d) (l % d)
-lower-word l h k =
+-- of one word
+pub upper-zero : {h d : ℕ} (l : ℕ) → h ≡ 0 → 0 < d → IsDivision (h * 2 ^ 64 + l) d (l / d) (l % d)
+upper-zero l h k =
     let e : 0 * 2 ^ 64 + l ≡ l = omega arith in
     rw (h, e) (plain l k)
 
@@ -53,7 +54,7 @@ unscaled {n} {d} {q} {r} p h e =
     let k : r / p ≡ t .0 = ap (λ (x : ℕ). x / p) g ∙ mul-div-cancel (t .0) h in
     record { whole = rw k (t .1); below = rw k (lt-of-mul-lt-mul-right p (omega (arith, e .below))) }
 
--- there is one division only
+-- a division is the only one
 pub is-divided : {n d q r : ℕ} → IsDivision n d q r → (q, r) ≡ divided n d
 unfolding divided
 is-divided {d = zero} e = absurd (not-suc-le-zero (e .below))
@@ -65,9 +66,3 @@ is-divided {n = n} {d = suc d} {q = q} {r = r} e =
 pub by-zero : (n : ℕ) {d : ℕ} → d ≡ 0 → (0, 0) ≡ divided n d
 unfolding divided
 by-zero n h = rw h refl
-
--- for callers: by a number above 0
-pub divided-by : {q r : ℕ} (n d : ℕ) → 0 < d → (q, r) ≡ divided n d → (q ≡ n / d) × (r ≡ n % d)
-unfolding divided
-divided-by n zero h e = absurd (not-suc-le-zero h)
-divided-by n (suc d) h e = (ap (λ (p : ℕ × ℕ). p .0) e, ap (λ (p : ℕ × ℕ). p .1) e)

@@ -1,15 +1,15 @@
 -- The shift that brings a divisor's top bit up, and the words of a number so shifted. Assumes nothing.
 use mathlib.Core.Path.{_≡_, sym, ap, _∙_}
 use Prim.Native.Nat.{ℕ, suc, _+_, _-_, _*_, _/_, _%_, _^_, _≤_, _<_}
-use native.Mathlib.Nat.{mod-eq-of-lt, mul-le-mul-right, mul-lt-mul-of-pos-right, div-div-eq-div-mul, mul-div-mul-right, div-lt-iff-lt-mul}
+use native.Mathlib.Nat.{mod-eq-of-lt, mul-le-mul-right, mul-lt-mul-of-pos-right, div-div-eq-div-mul, mul-div-mul-right}
 use native.Mathlib.Omega.{arith}
-use lib.Dec.{lit≤}
 use lib.Pow.{pow-pos, pow-add}
 use lib.Count.{leadingZeros, leading-top}
 
 powers : (i j k : ℕ) → i + j ≡ k → 2 ^ i * 2 ^ j ≡ 2 ^ k
 powers i j k e = sym (pow-add 2 i j) ∙ ap (λ (n : ℕ). 2 ^ n) e
 
+-- d shifted left by s has its top bit set, and is still a word
 pub record Normal (d s : ℕ) : Type 0 where
   pub shift : s ≤ 63
   pub top : 2 ^ 63 ≤ d * 2 ^ s

@@ -1,4 +1,4 @@
--- A number of 128 bits as two words of 64, and division. Definitions only.
+-- Rust's `u128` as two words of 64 bits, and division. Definitions only.
 use Prim.Native.Nat.{ℕ, zero, suc, _+_, _*_, _/_, _%_, _^_, _<_}
 use mathlib.Core.Path.{_≡_}
 use Rattle.num.specs.declared.wide.Wide.{Wide}

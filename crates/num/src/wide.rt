@@ -1,4 +1,5 @@
-// Numbers of 128 bits as two words of 64: product, sum and division, for all arguments.
+// Rust's `u128` as two words of 64 bits: product, sum and division by a word, for all arguments.
+// (hi, lo) is hi * 2^64 + lo.
 ghost use mathlib.Core.Path.{_≡_};
 ghost use Prim.Native.Nat.{_+_, _*_, _^_, _≤_, _<_};
 ghost use Rattle.num.specs.Wide.{value, wrappingSum, divided, IsDivision};
@@ -38,7 +39,8 @@ pub fn wide_product(a: u64, b: u64) -> Wide
     }
 }
 
-// a + b modulo 2^128, as Rust's `wrapping_add`. The low words carry where their sum is below one of them.
+// a + b modulo 2^128, as Rust's `wrapping_add`. The low words carry where their sum wraps below
+// one of them.
 pub fn wide_sum(a: Wide, b: Wide) -> Wide
     ensures { λ r. ⌜ value r ≡ wrappingSum (value a) (value b) ⌝ }
 {
@@ -53,7 +55,7 @@ pub fn wide_sum(a: Wide, b: Wide) -> Wide
     Wide { hi, lo }
 }
 
-// (hi, lo) by d, of 32 bits and above hi: two digits of 32 bits.
+// (hi, lo) by d, which is above hi and at most 2^32: two digits of 32 bits.
 fn divide_short(hi: u64, lo: u64, d: u64) -> Division
     requires { ⌜ (hi < d) × (d ≤ 2 ^ 32) ⌝ }
     ensures { λ r. ⌜ IsDivision (hi * 2 ^ 64 + lo) d (r .quotient) (r .remainder) ⌝ }

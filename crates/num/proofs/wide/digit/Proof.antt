@@ -67,23 +67,4 @@ returns c =
     rw div-add-mod' at (done (s .args .r) (s .args .x) (s .args .d / 2 ^ 32) (s .args .d % 2 ^ 32) (omega arith) _ _ (c .wrapping-sub-u64 .result) (c .before .before .loop .inv) (settled (c .before)) (omega arith) (omega arith) (c .wrapping-sub-u64 .ensures))
 
 pub digit-spec : {M : Type 1} → statement M
-digit-spec =
-    tie.close
-    (tie.spec
-    Inv-loop
-    μ-loop
-    div-q
-    rem-left
-    loop-holds
-    mul-if1
-    mul-if1-2
-    add-if1
-    sub-q
-    add-left
-    loop-less
-    loop-again
-    mul-wrapping-sub-u64
-    add-wrapping-sub-u64
-    mul-wrapping-sub-u64-2
-    wrapping-sub-u64-requires
-    returns)
+digit-spec = tie.close (tie.spec Inv-loop μ-loop div-q rem-left loop-holds mul-if1 mul-if1-2 add-if1 sub-q add-left loop-less loop-again mul-wrapping-sub-u64 add-wrapping-sub-u64 mul-wrapping-sub-u64-2 wrapping-sub-u64-requires returns)

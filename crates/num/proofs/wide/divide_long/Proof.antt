@@ -1,5 +1,5 @@
 -- `num::divide_long` meets its contract, by `proofs/WideShift.antt`. Assumes nothing.
-use Prim.Native.Nat.{_+_, _-_, _*_, _/_, _%_, _^_, _≤_, _<_}
+use Prim.Native.Nat.{_+_, _-_, _*_, _/_, _%_, _^_}
 use mathlib.Core.Path.{_≡_}
 use native.Mathlib.Nat.{mod-eq-of-lt}
 use native.Mathlib.Omega.{arith}
@@ -67,20 +67,4 @@ returns c =
     unscaled _ (pow-pos (leadingZeros 64 (s .args .d))) (rw (exact s, words s .whole) at (c .before .divide-normal .ensures))
 
 pub divide-long-spec : {M : Type 1} → statement M
-divide-long-spec =
-    tie.close
-    (tie.spec
-    cast-divide-normal
-    shl-divide-normal
-    sub-divide-normal
-    cast-divide-normal-2
-    shr-divide-normal
-    add-divide-normal
-    cast-divide-normal-3
-    shl-divide-normal-2
-    cast-divide-normal-4
-    shl-divide-normal-3
-    divide-normal-requires
-    cast-t6
-    shr-t16
-    returns)
+divide-long-spec = tie.close (tie.spec cast-divide-normal shl-divide-normal sub-divide-normal cast-divide-normal-2 shr-divide-normal add-divide-normal cast-divide-normal-3 shl-divide-normal-2 cast-divide-normal-4 shl-divide-normal-3 divide-normal-requires cast-t6 shr-t16 returns)

@@ -1,7 +1,7 @@
 -- `num::divide_word` meets its contract: each return is a division of its own. Assumes nothing.
 use native.Mathlib.Omega.{arith}
 use borrow.Author.Needs.{needs}
-use Rattle.num.proofs.WideDivision.{lower-word}
+use Rattle.num.proofs.WideDivision.{upper-zero}
 use Rattle.num.proofs.wide.divide_word.Statement.{statement}
 use Rattle.num.proofs.wide.divide_word.Tie as tie
 
@@ -12,7 +12,7 @@ rem-t6 : tie.Need-rem-t6
 rem-t6 c = search needs
 
 returns : tie.Need-returns
-returns c = lower-word (c .before .args .lo) (c .if1 .taken) (omega arith)
+returns c = upper-zero (c .before .args .lo) (c .if1 .taken) (omega arith)
 
 divide-short-requires : tie.Need-divide-short-requires
 divide-short-requires c κs = search needs

@@ -1,9 +1,9 @@
--- `num::wide_sum` meets its contract, by `proofs/WideSum.antt`. Assumes nothing.
+-- `num::wide_sum` meets its contract, by `proofs/WideSum.antt`: the lower words carry exactly where their sum wraps below one of them. Assumes nothing.
 use Prim.Native.Nat.{_<_, _^_}
 use native.Mathlib.Omega.{arith}
 use borrow.Author.Needs.{needs}
 use Rattle.num.specs.Wide.{value, wrappingSum}
-use Rattle.num.proofs.WideSum.{carried, not-carried}
+use Rattle.num.proofs.WideSum.{sum}
 use Rattle.num.proofs.wide.wide_sum.Statement.{statement}
 use Rattle.num.proofs.wide.wide_sum.Tie as tie
 
@@ -26,13 +26,13 @@ returns : tie.Need-returns
 unfolding value wrappingSum
 returns c =
     let s = c .before .before .before .before .before in
-    carried (s .args .a .hi) (s .args .b .hi) (s .args .a .lo) (s .args .b .lo) _ _ (lower-a s) (lower-b s) (omega arith) (omega arith) (omega arith)
+    sum (s .args .a .hi) (s .args .b .hi) (s .args .a .lo) (s .args .b .lo) 1 (omega arith) (omega (arith, lower-a s, lower-b s)) (omega arith)
 
 returns-2 : tie.Need-returns-2
 unfolding value wrappingSum
 returns-2 c =
     let s = c .before .before .before .before in
-    not-carried (s .args .a .hi) (s .args .b .hi) (s .args .a .lo) (s .args .b .lo) _ _ (lower-a s) (lower-b s) (omega arith) (omega arith) (omega arith)
+    sum (s .args .a .hi) (s .args .b .hi) (s .args .a .lo) (s .args .b .lo) 0 (omega arith) (omega (arith, lower-a s, lower-b s)) (omega arith)
 
 pub wide-sum-spec : {M : Type 1} → statement M
 wide-sum-spec = tie.close (tie.spec wrapping-add-u64-requires wrapping-add-u64-requires-2 wrapping-add-u64-requires-3 returns returns-2)
