@@ -3,3 +3,4 @@ pub mod Edges
 pub mod Capacity
 pub mod Percentile
 pub mod Search
+pub mod Cases
