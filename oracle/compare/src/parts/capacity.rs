@@ -369,31 +369,27 @@ fn search(n: u32, pairs: Vec<(u64, u64)>, inflow: Vec<u64>) -> Search {
     }
 }
 
-/// The stock as the Rust takes it, a function of the candidate: equal candidates have equal stocks.
+/// The search on a Rust side. The stock is a function of the candidate.
+macro_rules! search_of {
+    ($side:ident) => {
+        |search| {
+            let stock = search.stock_above().unwrap_or_default();
+            let rate = $side::min_rate_for_capacity(
+                |rate| stock[&rate],
+                &search.inflow,
+                search.n,
+                &search.candidates,
+            );
+            RateFields::from(rate).into()
+        }
+    };
+}
+
+/// Equal candidates have equal stocks, as in the Rust.
 const MIN_RATE_FOR_CAPACITY: Function<Search, Lent<RateFields>> =
-    Function::new("min_rate_for_capacity", Search::rattle, |search| {
-        let stock = search.stock_above().unwrap_or_default();
-        let Search {
-            n,
-            candidates,
-            inflow,
-            ..
-        } = search;
-        let rate = patched::min_rate_for_capacity(|rate| stock[&rate], inflow, *n, candidates);
-        RateFields::from(rate).into()
-    })
-    .within(|search| search.stock_above().is_some())
-    .same_upstream(|search| {
-        let stock = search.stock_above().unwrap_or_default();
-        let Search {
-            n,
-            candidates,
-            inflow,
-            ..
-        } = search;
-        let rate = upstream::min_rate_for_capacity(|rate| stock[&rate], inflow, *n, candidates);
-        RateFields::from(rate).into()
-    });
+    Function::new("min_rate_for_capacity", Search::rattle, search_of!(patched))
+        .within(|search| search.stock_above().is_some())
+        .same_upstream(search_of!(upstream));
 
 /// Any stocks. The Rust's callback cannot tell equal candidates apart, so the answer is that of
 /// `filtered_least`, which is written after the Rust.
