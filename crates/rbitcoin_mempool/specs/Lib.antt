@@ -3,3 +3,4 @@ pub mod Answer
 pub mod Edges
 pub mod Capacity
 pub mod Percentile
+pub mod Meter
