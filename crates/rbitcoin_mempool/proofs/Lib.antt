@@ -5,3 +5,5 @@ pub mod Percentile
 pub mod Search
 pub mod Maps
 pub mod Meter
+pub mod Behind
+pub mod MeterRead

@@ -1,13 +1,13 @@
 // The fee flow meter, after fee_flow.rs: an exponential moving average of the admitted weight a
 // second for each fee bucket. Time is a clock of u64 nanoseconds. The core takes and returns the
-// meter by value.
+// meter by value; `fullness`, `admit_rates_wu_s` and `note_admit` store what it returns.
 ghost use mathlib.Core.Path.{_≡_};
 ghost use mathlib.Core.Bool.{false, cond};
 ghost use mathlib.Core.List.{map};
 ghost use lib.ListN.{length};
 ghost use lib.Ieee.{le};
 ghost use Rattle.num.specs.Float.{ofU64, maxOf};
-ghost use Rattle.rbitcoin_mempool.specs.Meter.{flowFullWu, leastSecs, gap, kept, decayed, opened, decayTo, full, rates, noteAdmit};
+ghost use Rattle.rbitcoin_mempool.specs.Meter.{flowFullWu, leastSecs, gap, kept, decayed, opened, decayTo, full, fullness, rates, admitRatesWuS, noteAdmit};
 use crate::fee_est::BLOCK_WEIGHT_WU;
 use crate::fee_est::SECONDS_PER_BLOCK;
 use crate::fee_est::bucket_index;
@@ -192,5 +192,31 @@ impl FeeFlowMeter {
         m.last = decay_clock(last, now, since);
         m.last_admit = now;
         m
+    }
+
+    // Fullness, from 0 to 1, at a time that the meter is decayed to. Starts at 0.
+    pub fn fullness(&mut self, now: u64) -> f64
+        ensures { λ r. ⌜ (self .exit .now ≡ decayTo (self .entry .now) now) × (r ≡ fullness (self .entry .now) now) ⌝ }
+    {
+        let next = (*self).decay_to(now);
+        *self = next;
+        (*self).full()
+    }
+
+    // The rates (WU/s) of all buckets at a time that the meter is decayed to.
+    pub fn admit_rates_wu_s(&mut self, now: u64) -> [u64; 402]
+        ensures { λ r. ⌜ (self .exit .now ≡ decayTo (self .entry .now) now) × (r ≡ admitRatesWuS (self .entry .now) now) ⌝ }
+    {
+        let next = (*self).decay_to(now);
+        *self = next;
+        (*self).rates()
+    }
+
+    // An admission of a weight at a rate.
+    pub fn note_admit(&mut self, weight_wu: u64, rate_sat_per_kvb: u64, now: u64)
+        ensures { λ _. ⌜ self .exit .now ≡ noteAdmit (self .entry .now) «weight_wu» «rate_sat_per_kvb» now ⌝ }
+    {
+        let next = (*self).admit(weight_wu, rate_sat_per_kvb, now);
+        *self = next;
     }
 }
