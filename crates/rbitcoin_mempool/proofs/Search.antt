@@ -1,12 +1,15 @@
 -- The least fitting candidate, from the last one down. Assumes nothing.
-use mathlib.Core.Path.{_≡_, refl, sym, ap, _∙_}
-use mathlib.Core.Bool.{Bool, true, false, cond}
-use mathlib.Core.List.{List}
-use Prim.Native.Nat.{ℕ, suc, _≤_, _<_, min}
+use mathlib.Core.Path.{_≡_, refl, sym, ap, _∙_, subst}
+use mathlib.Core.Bool.{Bool, true, false, cond, true≢false}
+use mathlib.Core.List.{List, [], _∷_}
+use Prim.Native.Nat.{ℕ, zero, suc, _≤_, _<_, min, zero-le, suc-le-suc}
+use native.Mathlib.Nat.{le-refl, le-trans, le-of-suc-le-suc, not-suc-le-zero, min-eq-left}
 use native.Mathlib.Omega.{arith}
+use lib.Dec.{leb}
+use borrow.Author.Tests.{leb-true, leb-false}
 use lib.ListN.{length, getD, drop, drop-of-length-le}
 use lib.Seq.{drop-cons}
-use Rattle.rbitcoin_mempool.specs.Answer.{Answer, rate, none, lesser}
+use Rattle.rbitcoin_mempool.specs.Answer.{Answer, rate, none, refusal, lesser}
 use Rattle.rbitcoin_mempool.specs.Capacity.{leastFitting}
 
 -- what the loop has found
@@ -33,3 +36,75 @@ module _ (p : ℕ → ℕ → Bool) (cs ss : List ℕ) (e : length cs ≡ length
 
     pub search-passes : p (getD cs j 0) (getD ss j 0) ≡ false → soFar found best ≡ leastFitting p (drop j cs) (drop j ss)
     search-passes f = i ∙ sym (step j h ∙ rw f)
+
+-- ---- what the answer says
+-- r stands at a place of the list where it passes, and no candidate that passes is below it
+pub record Least (p : ℕ → ℕ → Bool) (cs ss : List ℕ) (r : ℕ) : Type 0 where
+  pub at : ℕ
+  pub within : at < length cs
+  pub is : getD cs at 0 ≡ r
+  pub passes : p r (getD ss at 0) ≡ true
+  pub least : (j : ℕ) → j < length cs → p (getD cs j 0) (getD ss j 0) ≡ true → r ≤ getD cs j 0
+
+-- none passes
+abbrev pub Unfit : (ℕ → ℕ → Bool) → List ℕ → List ℕ → Type 0
+Unfit p cs ss = (j : ℕ) → j < length cs → p (getD cs j 0) (getD ss j 0) ≡ false
+
+abbrev pub Meant : (ℕ → ℕ → Bool) → List ℕ → List ℕ → Answer → Type 0
+Meant p cs ss (rate r) = Least p cs ss r
+Meant p cs ss none = Unfit p cs ss
+Meant p cs ss (refusal k) = ⊥
+
+module _ (p : ℕ → ℕ → Bool) (c : ℕ) (cs : List ℕ) (s : ℕ) (ss : List ℕ) where
+  first : p c s ≡ true → Unfit p cs ss → Least p (c ∷ cs) (s ∷ ss) c
+  first h u = record { at = 0; within = suc-le-suc zero-le; is = refl; passes = h; least = go }
+    where
+      go : (j : ℕ) → j < length (c ∷ cs) → p (getD (c ∷ cs) j 0) (getD (s ∷ ss) j 0) ≡ true → c ≤ getD (c ∷ cs) j 0
+      go zero l q = le-refl c
+      go (suc j) l q = absurd (true≢false (sym q ∙ u j (le-of-suc-le-suc l)))
+
+  lower : p c s ≡ true → (r : ℕ) → Least p cs ss r → c ≤ r → Least p (c ∷ cs) (s ∷ ss) c
+  lower h r m o = record { at = 0; within = suc-le-suc zero-le; is = refl; passes = h; least = go }
+    where
+      go : (j : ℕ) → j < length (c ∷ cs) → p (getD (c ∷ cs) j 0) (getD (s ∷ ss) j 0) ≡ true → c ≤ getD (c ∷ cs) j 0
+      go zero l q = le-refl c
+      go (suc j) l q = le-trans o (m .least j (le-of-suc-le-suc l) q)
+
+  later : (r : ℕ) → Least p cs ss r → (p c s ≡ true → r ≤ c) → Least p (c ∷ cs) (s ∷ ss) r
+  later r m o = record { at = suc (m .at); within = suc-le-suc (m .within); is = m .is; passes = m .passes; least = go }
+    where
+      go : (j : ℕ) → j < length (c ∷ cs) → p (getD (c ∷ cs) j 0) (getD (s ∷ ss) j 0) ≡ true → r ≤ getD (c ∷ cs) j 0
+      go zero l q = o q
+      go (suc j) l q = m .least j (le-of-suc-le-suc l) q
+
+  unfit : p c s ≡ false → Unfit p cs ss → Unfit p (c ∷ cs) (s ∷ ss)
+  unfit h u zero l = h
+  unfit h u (suc j) l = u j (le-of-suc-le-suc l)
+
+  fit-step : p c s ≡ true → (a : Answer) → Meant p cs ss a → Meant p (c ∷ cs) (s ∷ ss) (lesser c a)
+  fit-step h (refusal k) m = m
+  fit-step h none m = first h m
+  fit-step h (rate r) m = go (leb c r) refl
+    where
+      go : (b : Bool) → leb c r ≡ b → Least p (c ∷ cs) (s ∷ ss) (min c r)
+      go true e = let l = leb-true c r e in subst (λ (z : ℕ). Least p (c ∷ cs) (s ∷ ss) z) (sym (min-eq-left l)) (lower h r m l)
+      go false e =
+          let l = leb-false c r e in
+          let z : min c r ≡ r = omega arith in
+          subst (λ (y : ℕ). Least p (c ∷ cs) (s ∷ ss) y) (sym z) (later r m (λ q. omega arith))
+
+  pass-step : p c s ≡ false → (a : Answer) → Meant p cs ss a → Meant p (c ∷ cs) (s ∷ ss) a
+  pass-step h (refusal k) m = m
+  pass-step h none m = unfit h m
+  pass-step h (rate r) m = later r m (λ q. absurd (true≢false (sym q ∙ h)))
+
+-- a rate exactly if some candidate fits, and then the least that does
+pub search-meant : (p : ℕ → ℕ → Bool) (cs ss : List ℕ) → length cs ≡ length ss → Meant p cs ss (leastFitting p cs ss)
+unfolding leastFitting
+search-meant p [] ss e = λ j l. absurd (not-suc-le-zero l)
+search-meant p (c ∷ cs) [] e = absurd (omega arith)
+search-meant p (c ∷ cs) (s ∷ ss) e = go (p c s) refl (search-meant p cs ss (omega arith))
+  where
+    go : (b : Bool) → p c s ≡ b → Meant p cs ss (leastFitting p cs ss) → Meant p (c ∷ cs) (s ∷ ss) (cond b (lesser c (leastFitting p cs ss)) (leastFitting p cs ss))
+    go true h m = fit-step p c cs s ss h (leastFitting p cs ss) m
+    go false h m = pass-step p c cs s ss h (leastFitting p cs ss) m

@@ -23,18 +23,48 @@ impl Bench {
         mut rattle: impl FnMut(&I) -> A,
         mut rust: impl FnMut(&I) -> B,
     ) {
+        self.measure(
+            name,
+            |repeats| time(repeats, inputs, &mut rattle),
+            |repeats| time(repeats, inputs, &mut rust),
+        );
+    }
+
+    /// The same for a Rust function that takes its input by value and consumes it: the copies are
+    /// made while no clock runs.
+    pub fn row_by_value<I: Clone, A, B>(
+        &mut self,
+        name: &str,
+        inputs: &[I],
+        mut rattle: impl FnMut(&I) -> A,
+        mut rust: impl FnMut(I) -> B,
+    ) {
+        self.measure(
+            name,
+            |repeats| time(repeats, inputs, &mut rattle),
+            |repeats| time_by_value(repeats, inputs, &mut rust),
+        );
+    }
+
+    /// Each side answers how long a number of passes over the inputs takes.
+    fn measure(
+        &mut self,
+        name: &str,
+        mut rattle: impl FnMut(u64) -> Duration,
+        mut rust: impl FnMut(u64) -> Duration,
+    ) {
         let mut repeats = 1;
-        while time(repeats, inputs, &mut rattle).min(time(repeats, inputs, &mut rust)) < LEAST {
+        while rattle(repeats).min(rust(repeats)) < LEAST {
             repeats *= 2;
         }
         let (mut least_rattle, mut least_rust) = (Duration::MAX, Duration::MAX);
         for round in 0..ROUNDS {
             if round % 2 == 0 {
-                least_rattle = least_rattle.min(time(repeats, inputs, &mut rattle));
+                least_rattle = least_rattle.min(rattle(repeats));
             }
-            least_rust = least_rust.min(time(repeats, inputs, &mut rust));
+            least_rust = least_rust.min(rust(repeats));
             if round % 2 == 1 {
-                least_rattle = least_rattle.min(time(repeats, inputs, &mut rattle));
+                least_rattle = least_rattle.min(rattle(repeats));
             }
         }
         let ratio = least_rattle.as_secs_f64() / least_rust.as_secs_f64();
@@ -53,4 +83,22 @@ fn time<I, A>(repeats: u64, inputs: &[I], function: &mut impl FnMut(&I) -> A) ->
         }
     }
     start.elapsed()
+}
+
+#[inline(never)]
+fn time_by_value<I: Clone, A>(
+    repeats: u64,
+    inputs: &[I],
+    function: &mut impl FnMut(I) -> A,
+) -> Duration {
+    let mut elapsed = Duration::ZERO;
+    for _ in 0..repeats {
+        let mut copies = black_box(inputs).to_vec();
+        let start = Instant::now();
+        for copy in copies.drain(..) {
+            black_box(function(copy));
+        }
+        elapsed += start.elapsed();
+    }
+    elapsed
 }

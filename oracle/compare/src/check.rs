@@ -16,10 +16,12 @@ pub struct Function<I, A> {
     pub upstream: Option<Upstream<I, A>>,
 }
 
-/// The Rust as published. Differences with it are counted apart, by region of the input.
+/// The Rust as published. Differences with it are listed apart, by region of the input.
 pub struct Upstream<I, A> {
     pub answer: fn(&I) -> A,
     pub region: fn(&I) -> &'static str,
+    /// Whether a difference fails the run.
+    pub fails: bool,
 }
 
 // Only pointers to functions, whatever the inputs and answers are.
@@ -53,8 +55,23 @@ impl<I: Input, A: Words + 'static> Function<I, A> {
         Function { domain, ..self }
     }
 
+    /// For a function that a stand-in concerns: differences are expected, and listed by region.
     pub const fn upstream(self, answer: fn(&I) -> A, region: fn(&I) -> &'static str) -> Self {
-        let upstream = Some(Upstream { answer, region });
+        let upstream = Some(Upstream {
+            answer,
+            region,
+            fails: false,
+        });
+        Function { upstream, ..self }
+    }
+
+    /// For a function that no stand-in concerns: a difference fails the run.
+    pub const fn same_upstream(self, answer: fn(&I) -> A) -> Self {
+        let upstream = Some(Upstream {
+            answer,
+            region: |_| "no stand-in",
+            fails: true,
+        });
         Function { upstream, ..self }
     }
 
@@ -163,6 +180,7 @@ struct Difference {
 /// What was seen against the Rust as published in one region of the input.
 struct Region {
     name: &'static str,
+    fails: bool,
     cases: u64,
     differences: u64,
     /// Differences that have no distance: a NaN on one side, or lists of different lengths.
@@ -205,7 +223,7 @@ impl Tally {
             if let Some(upstream) = &function.upstream {
                 rust.clear();
                 (upstream.answer)(&input).write(&mut rust);
-                self.region((upstream.region)(&input))
+                self.region((upstream.region)(&input), upstream.fails)
                     .count(&input, &rattle, &rust);
             }
         }
@@ -228,11 +246,12 @@ impl Tally {
         });
     }
 
-    fn region(&mut self, name: &'static str) -> &mut Region {
+    fn region(&mut self, name: &'static str, fails: bool) -> &mut Region {
         let found = self.regions.iter().position(|region| region.name == name);
         let place = found.unwrap_or_else(|| {
             self.regions.push(Region {
                 name,
+                fails,
                 cases: 0,
                 differences: 0,
                 apart: 0,
@@ -316,15 +335,18 @@ pub fn run(part: &str, jobs: Vec<Job>, seed: u64) -> Count {
     print_differences(part, &tallies)
 }
 
+/// The cases, and the differences that fail the run.
 fn print_differences(part: &str, tallies: &[Tally]) -> Count {
     let mut patched = Count::default();
     let mut upstream = Count::default();
+    let mut failing = 0;
     for tally in tallies {
         patched.cases += tally.cases;
         patched.differences += tally.differences;
         for region in &tally.regions {
             upstream.cases += region.cases;
             upstream.differences += region.differences;
+            failing += if region.fails { region.differences } else { 0 };
         }
     }
     println!("{part}: {patched}");
@@ -347,6 +369,7 @@ fn print_differences(part: &str, tallies: &[Tally]) -> Count {
             }
         }
     }
+    patched.differences += failing;
     patched
 }
 
@@ -431,6 +454,18 @@ mod tests {
             long.largest.as_ref().map(|(distance, _)| *distance),
             Some(1)
         );
+    }
+
+    #[test]
+    fn upstream_fails_the_run_where_no_stand_in_is_concerned() {
+        let function = Function {
+            rattle: BROKEN.patched,
+            ..BROKEN
+        };
+        let listed = tally(function.upstream(BROKEN.rattle, |_| "all"));
+        assert_eq!(print_differences("listed", &[listed]).differences, 0);
+        let failing = tally(function.same_upstream(BROKEN.rattle));
+        assert_eq!(print_differences("failing", &[failing]).differences, 41);
     }
 
     #[test]

@@ -1,5 +1,6 @@
 //! The parts of the comparison, one a file.
 
+mod capacity;
 mod num;
 
 use crate::bench::Bench;
@@ -22,4 +23,4 @@ pub trait Part {
     fn bench(&self, bench: &mut Bench);
 }
 
-pub const PARTS: &[&dyn Part] = &[&num::Num];
+pub const PARTS: &[&dyn Part] = &[&num::Num, &capacity::Capacity];

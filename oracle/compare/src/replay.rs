@@ -1,8 +1,8 @@
 //! The fixed list of questions and the oracle's answers that a Rattle program replays.
 //!
-//! A question is a line: the function's name and its arguments, each 16 hexadecimal digits, one space
-//! apart. The answer is a line: the results in the same form, a NaN as `nan`, a bool as 0 or 1 in 16
-//! digits.
+//! A question is a line: the function's name and its arguments, each 16 hexadecimal digits in lower
+//! case, one space apart; a list is its length and then its elements. The answer is a line: the
+//! results in the same form, a NaN as `nan`, a bool as 0 or 1 in 16 digits.
 
 use crate::check::Function;
 use crate::rng::Rng;
@@ -41,7 +41,7 @@ impl Replay {
             }
             let mut question = function.name.to_string();
             for word in input.words() {
-                question += &format!(" {:016X}", word.bits());
+                question += &format!(" {:016x}", word.bits());
             }
             question.push('\n');
             if self.asked.insert(question.clone()) {
@@ -76,7 +76,7 @@ fn answer_line(answer: &[Word]) -> String {
         .iter()
         .map(|word| match word {
             Word::Float(x) if x.is_nan() => "nan".to_string(),
-            word => format!("{:016X}", word.bits()),
+            word => format!("{:016x}", word.bits()),
         })
         .collect();
     results.join(" ") + "\n"

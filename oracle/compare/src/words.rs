@@ -159,6 +159,25 @@ impl Input for u32 {
     }
 }
 
+impl Words for u8 {
+    fn write(&self, out: &mut Vec<Word>) {
+        out.push(Word::Int(u64::from(*self)));
+    }
+}
+
+impl Input for u8 {
+    fn smaller(&self) -> Vec<u8> {
+        let wide = u64::from(*self).smaller();
+        wide.into_iter().map(|n| n as u8).collect()
+    }
+}
+
+impl Words for usize {
+    fn write(&self, out: &mut Vec<Word>) {
+        out.push(Word::Int(*self as u64));
+    }
+}
+
 impl Words for f64 {
     fn write(&self, out: &mut Vec<Word>) {
         out.push(Word::Float(*self));

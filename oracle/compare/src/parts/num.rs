@@ -615,6 +615,8 @@ fn ask_floats(replay: &mut Replay) {
     let shares: Vec<f64> = near_one.chain(compared).collect();
     replay.ask(&CLAMP, triples(&shares, &[0.0], &[1.0]));
     replay.ask(&CLAMP, triples(&compared, &compared, &[f64::INFINITY]));
+    let zeros = [0.0, -0.0];
+    replay.ask(&CLAMP, triples(&zeros, &[-1.0, 0.0, -0.0], &zeros));
     replay.ask_random(&CLAMP, 8, draw_clamp);
 }
 
@@ -626,6 +628,8 @@ fn ask_stand_ins(replay: &mut Replay) {
     replay.ask(&EXP, depths.map(blend_argument));
     replay.ask_random(&EXP, 24, draw_exponent);
     replay.ask(&LN, 0..=12);
+    // One term less, or a halving test at another number near SQRT_2, gives another float here.
+    replay.ask(&LN, [362, 385, 5_809, 92_686, 741_427, 741_490]);
     replay.ask(&LN, corner_words());
     replay.ask_random(&LN, 24, Rng::of_any_length);
     replay.ask(&LN_1_25, [()]);

@@ -1,0 +1,21 @@
+-- The starred cases hold: each is computed from the definitions. Assumes nothing.
+use mathlib.Core.Path.{refl}
+use lib.Ieee.{mul, ofInt, toUnsigned}
+use Rattle.slices.specs.Lists.{tabulate}
+use Rattle.slices.specs.Search.{seek}
+use Rattle.slices.specs.Sorted.{insert, sorted}
+use Rattle.rbitcoin_mempool.specs.Cases.{Cases}
+use Rattle.rbitcoin_mempool.specs.Edges.{series, edgeAt, firstAbove, bucketIndex, firstBucketAbove}
+use Rattle.rbitcoin_mempool.specs.Capacity.{effectiveCapacityWu, inflowWu, inflowSuffixWu, stressedWu, fitsWith, fits, leastFitting, minRateForCapacity}
+use Rattle.rbitcoin_mempool.specs.Percentile.{percentileSat}
+
+pub cases : Cases
+unfolding seek series edgeAt firstAbove bucketIndex firstBucketAbove effectiveCapacityWu tabulate insert sorted inflowWu inflowSuffixWu stressedWu fitsWith fits leastFitting minRateForCapacity percentileSat mul ofInt toUnsigned
+cases =
+    record {
+      case-A = (refl, refl, refl, refl, refl, refl);
+      case-B = (refl, refl, refl, refl);
+      case-C = (refl, refl, refl);
+      case-G = (refl, refl);
+      case-K = (refl, refl);
+    }
