@@ -2,5 +2,6 @@
 // arguments on and promises what the function behind it promises. A slice passes as a pointer and a
 // length, an array as a pointer.
 pub mod capacity;
+pub mod meter;
 pub mod numbers;
 pub mod rate;

@@ -4,3 +4,7 @@ pub mod Capacity
 pub mod Percentile
 pub mod Search
 pub mod Cases
+pub mod Maps
+pub mod Meter
+pub mod Behind
+pub mod MeterRead

@@ -4,3 +4,4 @@ pub mod Edges
 pub mod Capacity
 pub mod Percentile
 pub mod Cases
+pub mod Meter
