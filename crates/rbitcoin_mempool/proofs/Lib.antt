@@ -3,3 +3,5 @@ pub mod Edges
 pub mod Capacity
 pub mod Percentile
 pub mod Search
+pub mod Medians
+pub mod Quantiles

@@ -3,3 +3,5 @@ pub mod Answer
 pub mod Edges
 pub mod Capacity
 pub mod Percentile
+pub mod Median
+pub mod Quantile
