@@ -5,3 +5,16 @@ pub mod Percentile
 pub mod Search
 pub mod Medians
 pub mod Quantiles
+pub mod Refusals
+pub mod Regions
+pub mod Values
+pub mod Puts
+pub mod Pushes
+pub mod Parts
+pub mod Stored
+pub mod Kept
+pub mod Views
+pub mod Grown
+pub mod Rebuilds
+pub mod Reach
+pub mod Padding

@@ -5,3 +5,8 @@ pub mod Capacity
 pub mod Percentile
 pub mod Median
 pub mod Quantile
+pub mod Pairs
+pub mod Outcome
+pub mod Counted
+pub mod Windows
+pub mod Reached

@@ -1,7 +1,13 @@
 // Historical fee hurdles from windows that looked like now, after fee_analog.rs.
+mod history;
 mod median;
+mod put;
 mod quantile;
+mod refusals;
+mod room;
 
+pub use history::AnalogHistory;
+pub use history::Update;
 pub use median::analog_lookback;
 pub use median::ln_rate;
 pub use median::lookback_part;
