@@ -18,3 +18,6 @@ pub mod Grown
 pub mod Rebuilds
 pub mod Reach
 pub mod Padding
+pub mod Cuts
+pub mod Neighbors
+pub mod Scans

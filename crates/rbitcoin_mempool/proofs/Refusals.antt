@@ -9,6 +9,7 @@ use lib.Dec.{ltb, eqb}
 use borrow.Author.Tests.{le-ltb, ltb-false, eqb-false, eq-eqb, ne-eqb}
 use Rattle.rbitcoin_mempool.specs.declared.fee_analog.history.AnalogHistory.{AnalogHistory}
 use Rattle.rbitcoin_mempool.specs.Outcome.{done, refused, verdictOf}
+use Rattle.rbitcoin_mempool.specs.Scan.{scanRefusal}
 use Rattle.rbitcoin_mempool.specs.Windows.{Valid, at, fresh, lentRefusal, openRefusal, opened, orElse, popped, pushRefusal, rebuildRefusal, sizeRefusal, stateRefusal, unopened}
 
 -- a choice that is 0 did not choose k
@@ -123,6 +124,12 @@ module _ (s : AnalogHistory) (h b a : ℕ) (v : Valid s h b a) where
   accepts r =
       let l : lentRefusal s h b a ≡ 0 = or-else-second (stateRefusal s) (sizeRefusal s h b a) valid-state ∙ valid-size in
       or-else-second (lentRefusal s h b a) _ l ∙ rw (ne-eqb (s .count) (s .capacity) (λ e. omega arith))
+
+pub scan-accepted : (s : AnalogHistory) (h b a z : ℕ) → scanRefusal s h b a z ≡ 0 → (Valid s h b a) × (s .capacity ≤ z)
+unfolding scanRefusal
+scan-accepted s h b a z e =
+    let p = or-else-zero (lentRefusal s h b a) _ e in
+    (lent s h b a (p .0), ltb-false _ _ (not-chosen (ltb z (s .capacity)) 5 0 (omega arith) (p .1) .0))
 
 -- an opening, by the refusal r of the state s that it would return
 module _ (targets : List ℕ) (capacity h b a : ℕ) (s : AnalogHistory) (r : ℕ) (e : s ≡ fresh targets capacity) (q : r ≡ lentRefusal s h b a) where

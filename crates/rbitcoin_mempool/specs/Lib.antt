@@ -10,3 +10,5 @@ pub mod Outcome
 pub mod Counted
 pub mod Windows
 pub mod Reached
+pub mod Nearest
+pub mod Scan

@@ -1,10 +1,12 @@
 // Historical fee hurdles from windows that looked like now, after fee_analog.rs.
 mod history;
 mod median;
+mod nearest;
 mod put;
 mod quantile;
 mod refusals;
 mod room;
+mod scan;
 
 pub use history::AnalogHistory;
 pub use history::Update;

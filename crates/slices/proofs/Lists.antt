@@ -42,6 +42,15 @@ part-table d xs a n h =
     long : length (take n (drop a xs)) ≡ n
     long = length-take-le n (drop a xs) (rw length-drop (omega arith))
 
+-- the same, counted from o
+offset : {A : Type 0} (f : ℕ → A) (o i n : ℕ) → tabulate f (o + i) n ≡ tabulate (λ k. f (o + k)) i n
+unfolding tabulate
+offset f o i zero = refl
+offset f o i (suc n) = ap (λ l. f (o + i) ∷ l) (ap (λ m. tabulate f m n) (sym (add-suc o i)) ∙ offset f o (suc i) n)
+
+pub part-offset : {A : Type 0} (d : A) (xs : List A) (o i n : ℕ) → o + i + n ≤ length xs → take n (drop (o + i) xs) ≡ tabulate (λ k. getD xs (o + k) d) i n
+part-offset d xs o i n h = part-table d xs (o + i) n h ∙ offset (λ k. getD xs k d) o i n
+
 -- two tables go by their elements
 module _ {A : Type 0} (f g : ℕ → A) where
   pub tabulate-same : (i n : ℕ) → ((k : ℕ) → i ≤ k → k < i + n → f k ≡ g k) → tabulate f i n ≡ tabulate g i n

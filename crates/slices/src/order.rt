@@ -7,7 +7,7 @@ ghost use Rattle.slices.specs.Least.{leastOf};
 use super::sort::insertion_sort;
 
 // How many elements are at most v.
-fn count_at_most(xs: &[u64], v: u64) -> usize
+pub fn count_at_most(xs: &[u64], v: u64) -> usize
     ensures { λ r. ⌜ r ≡ atMost v (now (xs .entry)) ⌝ }
 {
     let mut n: usize = 0;

@@ -6,8 +6,13 @@ ghost use mathlib.Core.Path.{_≡_};
 ghost use lib.ListN.{length, getD};
 ghost use Rattle.slices.specs.Lists.{tabulate};
 ghost use Rattle.rbitcoin_mempool.specs.Outcome.{verdict, verdictOf};
-ghost use Rattle.rbitcoin_mempool.specs.Windows.{windows, openRefusal, opened, unopened, stateRefusal, pushRefusalOf, pushBackOf, pushFrontOf, popBackOf, popFrontOf, pushAll, rebuildRefusalOf, rebuiltOf};
+ghost use Rattle.rbitcoin_mempool.specs.Windows.{windows, openRefusal, opened, unopened, stateRefusal, pushRefusalOf, pushBackOf, pushFrontOf, popBackOf, popFrontOf, pushAll, rebuildRefusalOf, rebuiltOf, pairCount};
+ghost use Rattle.rbitcoin_mempool.specs.Answer.{answer};
+ghost use Rattle.rbitcoin_mempool.specs.Counted.{counted, countedOf};
+ghost use Rattle.rbitcoin_mempool.specs.Scan.{rateSatKvb, ScratchAfter};
+use super::ANALOG_READY_PAIRS;
 use super::put::put_pairs;
+use super::quantile::in_unit;
 use super::refusals::lent_refusal;
 use super::refusals::push_refusal;
 use super::refusals::rebuild_refusal;
@@ -15,7 +20,13 @@ use super::refusals::state_refusal;
 use super::room::placed;
 use super::room::room_back;
 use super::room::room_front;
+use super::scan::find_target;
+use super::scan::pairs_in;
+use super::scan::scan;
+use super::scan::scan_refusal;
+use crate::answer::CountAnswer;
 use crate::answer::Outcome;
+use crate::answer::RateAnswer;
 
 pub struct AnalogHistory {
     pub targets: [u32; 16],
@@ -239,5 +250,57 @@ impl AnalogHistory {
             outcome: Outcome::Done,
             state: t,
         }
+    }
+
+    // Pairs held for target `n_blocks` (0 for a target not tracked).
+    pub fn pairs(self, n_blocks: u32) -> CountAnswer
+        ensures { λ r. ⌜ counted r ≡ countedOf (stateRefusal self) (pairCount self «n_blocks») ⌝ }
+    {
+        let refusal = state_refusal(self);
+        if refusal != 0 {
+            return CountAnswer::Refused(refusal);
+        }
+        if find_target(self, n_blocks) < self.tracked {
+            return CountAnswer::Count(pairs_in(self.count, n_blocks));
+        }
+        CountAnswer::Count(0)
+    }
+
+    // Lowest rate (sat/kvB) at or above the window hurdle in a `confidence` share of the windows that looked like now.
+    // None before the target holds `ANALOG_READY_PAIRS` pairs. A scan that answers with a rate leaves `scratch` open.
+    pub fn rate_sat_kvb(
+        self,
+        n_blocks: u32,
+        confidence: f64,
+        hurdles: &[u64],
+        befores: &[f64],
+        aheads: &[u64],
+        scratch: &mut [u64],
+    ) -> RateAnswer
+        ensures { λ r. ⌜ answer r ≡ rateSatKvb (windows self (now (hurdles .entry)) (now (befores .entry)) (now (aheads .entry))) (length (now (scratch .entry))) «n_blocks» confidence ⌝ }
+        ensures { λ r. ⌜ ScratchAfter (answer r) (now (scratch .entry)) (now (scratch .exit)) ⌝ }
+    {
+        let refusal = scan_refusal(
+            self,
+            hurdles.len(),
+            befores.len(),
+            aheads.len(),
+            scratch.len(),
+        );
+        if refusal != 0 {
+            return RateAnswer::Refused(refusal);
+        }
+        let d = find_target(self, n_blocks);
+        if d >= self.tracked {
+            return RateAnswer::Nothing;
+        }
+        if pairs_in(self.count, n_blocks) < ANALOG_READY_PAIRS {
+            return RateAnswer::Nothing;
+        }
+        if !in_unit(confidence) {
+            return RateAnswer::Nothing;
+        }
+        let rate = scan(self, d, confidence, hurdles, befores, aheads, scratch);
+        RateAnswer::Found(rate)
     }
 }
