@@ -4,3 +4,4 @@
 pub mod capacity;
 pub mod numbers;
 pub mod rate;
+pub mod windows;

@@ -28,6 +28,8 @@ use crate::answer::CountAnswer;
 use crate::answer::Outcome;
 use crate::answer::RateAnswer;
 
+// Up to 16 targets, the places past their number `tracked` 0; `count` hurdles from place `start` on, of `capacity`.
+#[repr(C)]
 pub struct AnalogHistory {
     pub targets: [u32; 16],
     pub tracked: usize,
