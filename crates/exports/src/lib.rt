@@ -5,3 +5,4 @@ pub mod capacity;
 pub mod meter;
 pub mod numbers;
 pub mod rate;
+pub mod windows;

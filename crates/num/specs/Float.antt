@@ -1,9 +1,9 @@
 -- Rust's casts, comparisons and rounding of `f64`, from the Rust reference and IEEE 754, over lib.Ieee's values. Definitions only.
-use Prim.Native.Nat.{ℕ, _+_, _*_, _/_, _%_}
+use Prim.Native.Nat.{ℕ, _+_, _-_, _*_, _/_, _%_, _^_}
 use mathlib.Core.Bool.{Bool, true, false, cond}
 use lib.Dec.{eqb}
 use lib.IntN.{ℤ, pos}
-use lib.Ieee.{Float, nan, inf, fin, binary64, up, down, neg, lt, isNan, ofInt, toUnsigned}
+use lib.Ieee.{Float, nan, inf, fin, binary64, up, down, neg, lt, isNan, ofInt, toUnsigned, toBits}
 
 -- `n as f64` of an unsigned integer: the nearest value, ties to even
 abbrev pub ofU64 : ℕ → Float
@@ -47,3 +47,13 @@ unfoldable pub ceilOf : Float → Float
 ceilOf nan = nan
 ceilOf (inf s) = inf s
 ceilOf (fin s m e) = cond (isWhole m e) (fin s m e) (cond s (neg (ofU64 (cut m e))) (ofU64 (cut m e + 1)))
+
+-- `x.abs()`: the sign cleared
+abbrev pub absOf : Float → Float
+absOf nan = nan
+absOf (inf s) = inf false
+absOf (fin s m e) = fin false m e
+
+-- the bits of `x.abs()`, by which `total_cmp` orders what is not negative; a NaN comes last, whichever it is
+unfoldable pub absBits : Float → ℕ
+absBits x = cond (isNan x) (2 ^ 64 - 1) (toBits binary64 (absOf x))

@@ -5,7 +5,7 @@ ghost use Prim.Native.Nat.{_+_};
 ghost use lib.Dec.{T};
 ghost use lib.IntN.{pos};
 ghost use lib.Ieee.{fin, lt};
-ghost use Rattle.num.specs.Float.{ofU64, toU64, isFinite, maxOf, clampBelow, clampOf, floorOf, ceilOf};
+ghost use Rattle.num.specs.Float.{ofU64, toU64, isFinite, maxOf, clampBelow, clampOf, floorOf, ceilOf, absBits};
 ghost use Rattle.num.specs.Round.{roundToU64};
 
 // Rust's `n as f64`: the upper and lower half are each exact, and their sum is rounded once.
@@ -122,4 +122,14 @@ pub fn ceil(x: f64) -> f64
     ensures { λ r. ⌜ r ≡ ceilOf x ⌝ }
 {
     -floor(-x)
+}
+
+// The bits of `x.abs()`: those of x without the sign. Numbers that are not negative are ordered as their bits; a NaN comes last.
+pub fn abs_bits(x: f64) -> u64
+    ensures { λ r. ⌜ r ≡ absBits x ⌝ }
+{
+    if x != x {
+        return u64::MAX;
+    }
+    f64::to_bits(x) % 0x8000_0000_0000_0000
 }

@@ -1,8 +1,20 @@
-// What a question for a rate is answered with.
+// What a call is answered with.
 
 // A rate, none, or the number of a refusal.
 pub enum RateAnswer {
     Found(u64),
     Nothing,
+    Refused(u8),
+}
+
+// What was asked for is done, or the number of a refusal.
+pub enum Outcome {
+    Done,
+    Refused(u8),
+}
+
+// A count, or the number of a refusal.
+pub enum CountAnswer {
+    Count(usize),
     Refused(u8),
 }

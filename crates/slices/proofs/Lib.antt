@@ -1,4 +1,4 @@
--- Laws of `sorted`, of counts, and of the steps of selection and of sorting.
+-- Laws of `sorted`, of counts, of moved runs, and of the steps of selection and of sorting.
 pub mod Lists
 pub mod Search
 pub mod Sorting
@@ -7,3 +7,7 @@ pub mod Bracket
 pub mod Shares
 pub mod Swaps
 pub mod Sinking
+pub mod Parting
+pub mod Halves
+pub mod Least
+pub mod Runs

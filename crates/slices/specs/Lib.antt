@@ -2,3 +2,4 @@
 pub mod Lists
 pub mod Search
 pub mod Sorted
+pub mod Least

@@ -2,11 +2,12 @@
 ghost use mathlib.Core.Path.{_≡_};
 ghost use Prim.Native.Nat.{_≤_, _<_};
 ghost use lib.ListN.{length, getD};
-ghost use Rattle.slices.specs.Sorted.{sorted, atMost, below, equal, Least, Most};
+ghost use Rattle.slices.specs.Sorted.{sorted, atMost, below, equal, Most};
+ghost use Rattle.slices.specs.Least.{leastOf};
 use super::sort::insertion_sort;
 
 // How many elements are at most v.
-fn count_at_most(xs: &[u64], v: u64) -> usize
+pub fn count_at_most(xs: &[u64], v: u64) -> usize
     ensures { λ r. ⌜ r ≡ atMost v (now (xs .entry)) ⌝ }
 {
     let mut n: usize = 0;
@@ -20,9 +21,9 @@ fn count_at_most(xs: &[u64], v: u64) -> usize
     n
 }
 
-// A bound from below that is reached where the list is not empty.
-fn least(xs: &[u64]) -> u64
-    ensures { λ r. ⌜ Least r (now (xs .entry)) ⌝ }
+// The least element, and the largest `u64` where there is none.
+pub fn least_of(xs: &[u64]) -> u64
+    ensures { λ r. ⌜ r ≡ leastOf (now (xs .entry)) ⌝ }
 {
     let mut m = u64::MAX;
     let mut i = 0;
@@ -37,7 +38,7 @@ fn least(xs: &[u64]) -> u64
 }
 
 // A bound from above.
-fn greatest(xs: &[u64]) -> u64
+pub(crate) fn greatest(xs: &[u64]) -> u64
     ensures { λ r. ⌜ Most r (now (xs .entry)) ⌝ }
 {
     let mut m = 0;
@@ -145,7 +146,7 @@ fn select(xs: &[u64], k: usize) -> u64
     requires { ⌜ k < length (now xs) ⌝ }
     ensures { λ r. ⌜ r ≡ getD (sorted (now (xs .entry))) k 0 ⌝ }
 {
-    let mut lo = least(xs);
+    let mut lo = least_of(xs);
     let mut hi = greatest(xs);
     let mut under: usize = 0;
     let mut upto = xs.len();

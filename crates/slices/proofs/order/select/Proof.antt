@@ -3,17 +3,10 @@ use borrow.Author.Needs.{needs}
 use native.Mathlib.Omega.{arith}
 use Prim.Native.Nat.{_-_}
 use native.Mathlib.Nat.{le-antisymm}
+use Rattle.slices.proofs.Least.{least-bound}
 use Rattle.slices.proofs.Bracket.{Bracket, bracket, lower-half, upper-half, only}
 use Rattle.slices.proofs.order.select.Statement.{statement}
 use Rattle.slices.proofs.order.select.Tie as tie
-use Rattle.slices.proofs.order.select.Reads as reads
-use Rattle.slices.proofs.order.select.Lts as lts
-use Rattle.slices.proofs.order.count_at_most.Reads as count-at-most-reads
-use Rattle.slices.proofs.order.find_within.Reads as find-within-reads
-use Rattle.slices.proofs.order.greatest.Reads as greatest-reads
-use Rattle.slices.proofs.order.least.Reads as least-reads
-use Rattle.slices.proofs.order.pivot.Reads as pivot-reads
-use Rattle.slices.proofs.order.next_turn.Reads as next-turn-reads
 
 abbrev Inv-loop : tie.InvT-loop
 Inv-loop xs k lo₀ hi₀ under₀ upto₀ turn₀ lo hi under upto turn = Bracket xs k lo hi under upto
@@ -21,8 +14,8 @@ Inv-loop xs k lo₀ hi₀ under₀ upto₀ turn₀ lo hi under upto turn = Brack
 abbrev μ-loop : tie.MeasureT-loop
 μ-loop xs k lo₀ hi₀ under₀ upto₀ turn₀ lo hi under upto turn = hi - lo
 
-least-requires : tie.Need-least-requires Inv-loop μ-loop
-least-requires c κs = search needs
+least-of-requires : tie.Need-least-of-requires Inv-loop μ-loop
+least-of-requires c κs = search needs
 
 greatest-requires : tie.Need-greatest-requires Inv-loop μ-loop
 greatest-requires c κs = search needs
@@ -30,7 +23,7 @@ greatest-requires c κs = search needs
 loop-holds : tie.Need-loop-holds Inv-loop μ-loop
 loop-holds c =
     let s = c .before .before .before in
-    bracket (s .args .xs .now) (s .args .k) _ _ (s .pre) (c .before .least .ensures) (c .greatest .ensures) (search needs)
+    bracket (s .args .xs .now) (s .args .k) _ _ (s .pre) (rw (c .before .least-of .ensures) (least-bound (s .args .xs .now))) (c .greatest .ensures) (search needs)
 
 sub-if1 : tie.Need-sub-if1 Inv-loop μ-loop
 sub-if1 c = search needs
@@ -91,7 +84,7 @@ select-spec =
     (tie.spec
     Inv-loop
     μ-loop
-    least-requires
+    least-of-requires
     greatest-requires
     loop-holds
     sub-if1

@@ -1,0 +1,184 @@
+// The functions of the pair windows. The state passes by value.
+ghost use mathlib.Core.Path.{_≡_};
+ghost use lib.ListN.{length};
+ghost use Rattle.rbitcoin_mempool.specs.Answer.{answer};
+ghost use Rattle.rbitcoin_mempool.specs.Outcome.{verdict};
+ghost use Rattle.rbitcoin_mempool.specs.Counted.{counted, countedOf};
+ghost use Rattle.rbitcoin_mempool.specs.Median.{analogLookback, lnRate, lowerMedian};
+ghost use Rattle.rbitcoin_mempool.specs.Quantile.{logQuantile, logQuantileLeaves};
+ghost use Rattle.rbitcoin_mempool.specs.Windows.{windows, openRefusal, opened, stateRefusal, pushRefusalOf, pushBackOf, pushFrontOf, popBackOf, popFrontOf, rebuildRefusalOf, rebuiltOf, pairCount};
+ghost use Rattle.rbitcoin_mempool.specs.Scan.{rateSatKvb, ScratchAfter};
+ghost use Rattle.exports.specs.Fields.{Fields};
+ghost use Rattle.exports.specs.Updates.{numberOf, countRefusal, countNumber};
+use crate::rate::RateFields;
+use crate::rate::rate_fields;
+use rbitcoin_mempool::answer::CountAnswer;
+use rbitcoin_mempool::answer::Outcome;
+use rbitcoin_mempool::fee_analog;
+use rbitcoin_mempool::fee_analog::AnalogHistory;
+use rbitcoin_mempool::fee_analog::Update;
+
+// The number of a refusal or 0, and the state.
+#[repr(C)]
+pub struct UpdateFields {
+    pub refusal: u8,
+    pub state: AnalogHistory,
+}
+
+// The number of a refusal or 0, and the count or 0.
+#[repr(C)]
+pub struct CountFields {
+    pub refusal: u8,
+    pub count: usize,
+}
+
+fn number_of(o: Outcome) -> u8
+    ensures { λ r. ⌜ r ≡ numberOf (verdict o) ⌝ }
+{
+    match o {
+        Outcome::Done => 0,
+        Outcome::Refused(refusal) => refusal,
+    }
+}
+
+fn update_fields(u: Update) -> UpdateFields
+    ensures { λ r. ⌜ (r .refusal ≡ numberOf (verdict (u .outcome))) × (r .state ≡ u .state) ⌝ }
+{
+    let outcome = u.outcome;
+    let state = u.state;
+    UpdateFields {
+        refusal: number_of(outcome),
+        state,
+    }
+}
+
+fn count_fields(a: CountAnswer) -> CountFields
+    ensures { λ r. ⌜ (r .refusal ≡ countRefusal (counted a)) × (r .count ≡ countNumber (counted a)) ⌝ }
+{
+    match a {
+        CountAnswer::Count(count) => CountFields { refusal: 0, count },
+        CountAnswer::Refused(refusal) => CountFields { refusal, count: 0 },
+    }
+}
+
+#[no_mangle]
+pub extern "C" fn juleyomu_analog_lookback(n: u32) -> usize
+    ensures { λ r. ⌜ r ≡ analogLookback n ⌝ }
+{
+    fee_analog::analog_lookback(n)
+}
+
+#[no_mangle]
+pub extern "C" fn juleyomu_ln_rate(rate: u64) -> f64
+    ensures { λ r. ⌜ r ≡ lnRate rate ⌝ }
+{
+    fee_analog::ln_rate(rate)
+}
+
+#[no_mangle]
+pub extern "C" fn juleyomu_lower_median(values: &[u64]) -> RateFields
+    ensures { λ r. ⌜ Fields (lowerMedian (now (values .entry))) (r .refusal) (r .mark) (r .rate) ⌝ }
+{
+    rate_fields(fee_analog::lower_median(values))
+}
+
+#[no_mangle]
+pub extern "C" fn juleyomu_log_quantile(outcomes: &mut [u64], confidence: f64) -> RateFields
+    ensures { λ r. ⌜ Fields (logQuantile (now (outcomes .entry)) confidence) (r .refusal) (r .mark) (r .rate) ⌝ }
+    ensures { λ _. ⌜ now (outcomes .exit) ≡ logQuantileLeaves (now (outcomes .entry)) confidence ⌝ }
+{
+    rate_fields(fee_analog::log_quantile(outcomes, confidence))
+}
+
+#[no_mangle]
+pub extern "C" fn juleyomu_windows_new(
+    targets: &[u32],
+    capacity: usize,
+    hurdles: &[u64],
+    befores: &[f64],
+    aheads: &[u64],
+) -> UpdateFields
+    ensures { λ r. ⌜ r .refusal ≡ openRefusal (now (targets .entry)) capacity (length (now (hurdles .entry))) (length (now (befores .entry))) (length (now (aheads .entry))) ⌝ }
+    ensures { λ r. ⌜ r .state ≡ opened (now (targets .entry)) capacity (length (now (hurdles .entry))) (length (now (befores .entry))) (length (now (aheads .entry))) ⌝ }
+{
+    update_fields(AnalogHistory::new(targets, capacity, hurdles, befores, aheads))
+}
+
+#[no_mangle]
+pub extern "C" fn juleyomu_windows_push_back(
+    state: AnalogHistory,
+    hurdle: u64,
+    hurdles: &mut [u64],
+    befores: &mut [f64],
+    aheads: &mut [u64],
+) -> UpdateFields
+    ensures { λ r. ⌜ r .refusal ≡ pushRefusalOf (windows state (now (hurdles .entry)) (now (befores .entry)) (now (aheads .entry))) ⌝ }
+    ensures { λ r. ⌜ windows (r .state) (now (hurdles .exit)) (now (befores .exit)) (now (aheads .exit)) ≡ pushBackOf hurdle (windows state (now (hurdles .entry)) (now (befores .entry)) (now (aheads .entry))) ⌝ }
+{
+    update_fields(state.push_back(hurdle, hurdles, befores, aheads))
+}
+
+#[no_mangle]
+pub extern "C" fn juleyomu_windows_push_front(
+    state: AnalogHistory,
+    hurdle: u64,
+    hurdles: &mut [u64],
+    befores: &mut [f64],
+    aheads: &mut [u64],
+) -> UpdateFields
+    ensures { λ r. ⌜ r .refusal ≡ pushRefusalOf (windows state (now (hurdles .entry)) (now (befores .entry)) (now (aheads .entry))) ⌝ }
+    ensures { λ r. ⌜ windows (r .state) (now (hurdles .exit)) (now (befores .exit)) (now (aheads .exit)) ≡ pushFrontOf hurdle (windows state (now (hurdles .entry)) (now (befores .entry)) (now (aheads .entry))) ⌝ }
+{
+    update_fields(state.push_front(hurdle, hurdles, befores, aheads))
+}
+
+#[no_mangle]
+pub extern "C" fn juleyomu_windows_pop_back(state: AnalogHistory) -> UpdateFields
+    ensures { λ r. ⌜ (r .refusal ≡ stateRefusal state) × (r .state ≡ popBackOf state) ⌝ }
+{
+    update_fields(state.pop_back())
+}
+
+#[no_mangle]
+pub extern "C" fn juleyomu_windows_pop_front(state: AnalogHistory) -> UpdateFields
+    ensures { λ r. ⌜ (r .refusal ≡ stateRefusal state) × (r .state ≡ popFrontOf state) ⌝ }
+{
+    update_fields(state.pop_front())
+}
+
+#[no_mangle]
+pub extern "C" fn juleyomu_windows_rebuild(
+    state: AnalogHistory,
+    from: &[u64],
+    hurdles: &mut [u64],
+    befores: &mut [f64],
+    aheads: &mut [u64],
+) -> UpdateFields
+    ensures { λ r. ⌜ r .refusal ≡ rebuildRefusalOf (now (from .entry)) (windows state (now (hurdles .entry)) (now (befores .entry)) (now (aheads .entry))) ⌝ }
+    ensures { λ r. ⌜ windows (r .state) (now (hurdles .exit)) (now (befores .exit)) (now (aheads .exit)) ≡ rebuiltOf (now (from .entry)) (windows state (now (hurdles .entry)) (now (befores .entry)) (now (aheads .entry))) ⌝ }
+{
+    update_fields(state.rebuild(from, hurdles, befores, aheads))
+}
+
+#[no_mangle]
+pub extern "C" fn juleyomu_windows_pairs(state: AnalogHistory, n: u32) -> CountFields
+    ensures { λ r. ⌜ (r .refusal ≡ countRefusal (countedOf (stateRefusal state) (pairCount state n))) × (r .count ≡ countNumber (countedOf (stateRefusal state) (pairCount state n))) ⌝ }
+{
+    count_fields(state.pairs(n))
+}
+
+#[no_mangle]
+pub extern "C" fn juleyomu_windows_rate_sat_kvb(
+    state: AnalogHistory,
+    n: u32,
+    confidence: f64,
+    hurdles: &[u64],
+    befores: &[f64],
+    aheads: &[u64],
+    scratch: &mut [u64],
+) -> RateFields
+    ensures { λ r. ⌜ Fields (rateSatKvb (windows state (now (hurdles .entry)) (now (befores .entry)) (now (aheads .entry))) (length (now (scratch .entry))) n confidence) (r .refusal) (r .mark) (r .rate) ⌝ }
+    ensures { λ _. ⌜ ScratchAfter (rateSatKvb (windows state (now (hurdles .entry)) (now (befores .entry)) (now (aheads .entry))) (length (now (scratch .entry))) n confidence) (now (scratch .entry)) (now (scratch .exit)) ⌝ }
+{
+    rate_fields(state.rate_sat_kvb(n, confidence, hurdles, befores, aheads, scratch))
+}

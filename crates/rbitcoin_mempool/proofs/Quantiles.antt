@@ -1,0 +1,50 @@
+-- The quantile's definitions by the list's length and the confidence, as the code tests them. Assumes nothing.
+use mathlib.Core.Path.{_≡_, refl}
+use mathlib.Core.Bool.{Bool, true, false, cond}
+use mathlib.Core.List.{List, [], _∷_}
+use Prim.Native.Nat.{ℕ}
+use native.Mathlib.Omega.{arith}
+use lib.ListN.{length, getD}
+use lib.Ieee.{Float}
+use Rattle.slices.specs.Sorted.{sorted}
+use Rattle.rbitcoin_mempool.specs.Answer.{rate, refusal}
+use Rattle.rbitcoin_mempool.specs.Quantile.{rankOf, lowerPlace, upperPlace, between, atRank, quantileOf, inUnit, logQuantile, logQuantileLeaves}
+
+module _ (c : Float) where
+  -- from the two neighbours
+  pub quantile-by : (xs : List ℕ) (r : Float) (k l a b q : ℕ) → r ≡ rankOf c (length xs) → k ≡ lowerPlace r → l ≡ upperPlace r
+      → a ≡ getD (sorted xs) k 0 → b ≡ getD (sorted xs) l 0 → q ≡ between a b r → q ≡ quantileOf xs c
+  unfolding quantileOf atRank
+  quantile-by xs r k l a b q e f g h i j = rw (← e, ← f, ← g, ← h, ← i) j
+
+  pub quantile-empty : (xs : List ℕ) → length xs ≡ 0 → refusal 6 ≡ logQuantile xs c
+  unfolding logQuantile
+  quantile-empty [] e = refl
+  quantile-empty (x ∷ xs) e = absurd (let f : ⊥ = omega arith in f)
+
+  pub quantile-refused : (xs : List ℕ) → (length xs ≡ 0 → ⊥) → inUnit c ≡ false → refusal 7 ≡ logQuantile xs c
+  unfolding logQuantile
+  quantile-refused [] n h = absurd (n refl)
+  quantile-refused (x ∷ xs) n h = rw h
+
+  pub quantile-found : (xs : List ℕ) → (length xs ≡ 0 → ⊥) → inUnit c ≡ true → rate (quantileOf xs c) ≡ logQuantile xs c
+  unfolding logQuantile
+  quantile-found [] n h = absurd (n refl)
+  quantile-found (x ∷ xs) n h = rw h
+
+  pub leaves-empty : (xs : List ℕ) → length xs ≡ 0 → xs ≡ logQuantileLeaves xs c
+  unfolding logQuantileLeaves sorted
+  leaves-empty [] e = go (inUnit c)
+    where
+      go : (b : Bool) → _≡_ {A = List ℕ} [] (cond b [] [])
+      go true = refl
+      go false = refl
+  leaves-empty (x ∷ xs) e = absurd (let f : ⊥ = omega arith in f)
+
+  pub leaves-refused : (xs : List ℕ) → inUnit c ≡ false → xs ≡ logQuantileLeaves xs c
+  unfolding logQuantileLeaves
+  leaves-refused xs h = rw h
+
+  pub leaves-sorted : (xs : List ℕ) → inUnit c ≡ true → sorted xs ≡ logQuantileLeaves xs c
+  unfolding logQuantileLeaves
+  leaves-sorted xs h = rw h

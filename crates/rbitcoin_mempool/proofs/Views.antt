@@ -1,0 +1,81 @@
+-- What each operation does to the held hurdles: a push adds one at its end, and a pop takes one. Assumes nothing.
+use Prim.Native.Nat.{ℕ, _+_, _-_, _/_, _≤_, _<_}
+use mathlib.Core.Path.{_≡_, refl, sym, ap, _∙_, subst}
+use mathlib.Core.Logic.{⊎-elim}
+use mathlib.Core.Bool.{Bool, true, false, cond}
+use mathlib.Core.List.{List, [], _∷_, _++_}
+use native.Mathlib.Omega.{arith}
+use native.Mathlib.Nat.{eq-or-lt-of-le}
+use lib.ListN.{drop, getD}
+use lib.Dec.{eqb}
+use Rattle.rbitcoin_mempool.specs.Reached.{popBackIn, popFrontIn}
+use Rattle.rbitcoin_mempool.specs.Windows.{Windows, freeOf, held, heldIn, movedTo, pushBackOf, pushFrontOf, pushRefusalOf, roomBack, roomFront, stateRefusal, storeBack, storeFront, withPairs}
+use Rattle.rbitcoin_mempool.proofs.Parts.{held-all-back, held-all-front, held-back, held-front, held-moved}
+use Rattle.rbitcoin_mempool.proofs.Pushes.{OpenBack, OpenFront, ValidIn, push-back-done, push-front-done, room-back-open, room-front-open}
+use Rattle.rbitcoin_mempool.proofs.Refusals.{accepted, popped-some}
+use Rattle.rbitcoin_mempool.proofs.Values.{back-kept, back-moved, front-kept, front-moved}
+
+module _ (w : Windows) (v : ValidIn w) where
+  move-held : (to : ℕ) → to + w .state .count ≤ w .state .capacity → heldIn (movedTo to w) ≡ heldIn w
+  unfolding movedTo
+  move-held to p = let i = v .within in let j = v .hurdles-fit in held-moved (w .state) (w .hurdles) to (omega arith) (omega arith)
+
+  back-room-held : w .state .count < w .state .capacity → heldIn (roomBack w) ≡ heldIn w
+  back-room-held r =
+      ⊎-elim
+      (λ e. subst (λ (u : Windows). heldIn u ≡ heldIn w) (back-moved w e) (move-held (freeOf (w .state) / 4) (omega arith)))
+      (λ l. subst (λ (u : Windows). heldIn u ≡ heldIn w) (back-kept w (λ e. omega arith)) refl)
+      (eq-or-lt-of-le (v .within))
+
+  front-room-held : w .state .count < w .state .capacity → heldIn (roomFront w) ≡ heldIn w
+  front-room-held r =
+      ⊎-elim
+      (λ e. subst (λ (u : Windows). heldIn u ≡ heldIn w) (front-moved w (sym e)) (move-held (freeOf (w .state) - freeOf (w .state) / 4) (omega arith)))
+      (λ l. subst (λ (u : Windows). heldIn u ≡ heldIn w) (front-kept w (λ e. omega arith)) refl)
+      (eq-or-lt-of-le (let z : 0 ≤ w .state .start = omega arith in z))
+
+store-back-held : (w : Windows) (x : ℕ) → OpenBack w → heldIn (withPairs true (storeBack x w)) ≡ heldIn w ++ (x ∷ [])
+unfolding withPairs storeBack
+store-back-held w x o = let i = o .room in let j = o .valid .hurdles-fit in held-back (w .state) (w .hurdles) x (omega arith)
+
+store-front-held : (w : Windows) (x : ℕ) → OpenFront w → heldIn (withPairs false (storeFront x w)) ≡ x ∷ heldIn w
+unfolding withPairs storeFront
+store-front-held w x o = let i = o .room in let k = o .valid .within in let j = o .valid .hurdles-fit in held-front (w .state) (w .hurdles) x i (omega arith)
+
+module _ (w : Windows) (x : ℕ) (z : pushRefusalOf w ≡ 0) where
+  pub push-back-held : heldIn (pushBackOf x w) ≡ heldIn w ++ (x ∷ [])
+  push-back-held =
+      let o = accepted (w .state) _ _ _ z in
+      subst (λ (u : Windows). heldIn u ≡ heldIn w ++ (x ∷ [])) (push-back-done w x z)
+      (store-back-held (roomBack w) x (room-back-open w (o .valid) (o .room)) ∙ ap (λ (l : List ℕ). l ++ (x ∷ [])) (back-room-held w (o .valid) (o .room)))
+
+  pub push-front-held : heldIn (pushFrontOf x w) ≡ x ∷ heldIn w
+  push-front-held =
+      let o = accepted (w .state) _ _ _ z in
+      subst (λ (u : Windows). heldIn u ≡ x ∷ heldIn w) (push-front-done w x z)
+      (store-front-held (roomFront w) x (room-front-open w (o .valid) (o .room)) ∙ ap (λ (l : List ℕ). x ∷ l) (front-room-held w (o .valid) (o .room)))
+
+module _ (w : Windows) (v : ValidIn w) (z : stateRefusal (w .state) ≡ 0) (p : w .state .count ≡ 0 → ⊥) where
+  pub pop-back-held : heldIn w ≡ heldIn (popBackIn w) ++ (getD (drop (w .state .start) (w .hurdles)) (w .state .count - 1) 0 ∷ [])
+  pop-back-held =
+      let i = v .within in
+      let j = v .hurdles-fit in
+      held-all-back (w .state) (w .hurdles) (omega arith) (omega arith)
+      ∙ ap (λ (s : _). held s (w .hurdles) ++ (getD (drop (w .state .start) (w .hurdles)) (w .state .count - 1) 0 ∷ [])) (popped-some (w .state) (w .state .start) z p)
+
+  pub pop-front-held : heldIn w ≡ getD (w .hurdles) (w .state .start) 0 ∷ heldIn (popFrontIn w)
+  pop-front-held =
+      let i = v .within in
+      let j = v .hurdles-fit in
+      held-all-front (w .state) (w .hurdles) (omega arith) (omega arith)
+      ∙ ap (λ (s : _). getD (w .hurdles) (w .state .start) 0 ∷ held s (w .hurdles)) (popped-some (w .state) (w .state .start + 1) z p)
+
+-- a push keeps the capacity
+pub push-back-capacity : (w : Windows) (x : ℕ) → pushBackOf x w .state .capacity ≡ w .state .capacity
+unfolding pushBackOf withPairs storeBack roomBack movedTo
+push-back-capacity w x = by (eqb (pushRefusalOf w) 0) (eqb (w .state .start + w .state .count) (w .state .capacity))
+  where
+    by : (a b : Bool) → cond a (withPairs true (storeBack x (cond b (movedTo (freeOf (w .state) / 4) w) w))) w .state .capacity ≡ w .state .capacity
+    by true true = refl
+    by true false = refl
+    by false b = refl

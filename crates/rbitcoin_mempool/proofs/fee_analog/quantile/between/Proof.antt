@@ -1,0 +1,29 @@
+-- `fee_analog::quantile::between` meets its contract. Assumes nothing.
+use borrow.Author.Needs.{needs}
+use mathlib.Core.Path.{sym, ap, _∙_}
+use lib.Ieee.{binary64, sub}
+use borrow.Author.Tests.{eq-eqb, ne-eqb}
+use Rattle.rbitcoin_mempool.specs.Quantile.{blendOf, between}
+use Rattle.rbitcoin_mempool.proofs.fee_analog.quantile.between.Statement.{statement}
+use Rattle.rbitcoin_mempool.proofs.fee_analog.quantile.between.Tie as tie
+
+returns : tie.Need-returns
+unfolding between
+returns c = sym (rw (eq-eqb (c .before .args .a) (c .before .args .b) (c .if1 .taken)))
+
+floor-requires : tie.Need-floor-requires
+floor-requires c κs = search needs
+
+blend-requires : tie.Need-blend-requires
+blend-requires c κs = search needs
+
+returns-2 : tie.Need-returns-2
+unfolding between
+returns-2 c =
+    let a = c .before .before .before .args in
+    c .blend .ensures
+    ∙ ap (λ f. blendOf (a .a) (a .b) (sub binary64 (a .rank) f)) (c .before .floor .ensures)
+    ∙ sym (rw (ne-eqb (a .a) (a .b) (c .before .before .if1 .left)))
+
+pub between-spec : {M : Type 1} → statement M
+between-spec = tie.close (tie.spec returns floor-requires blend-requires returns-2)

@@ -1,0 +1,18 @@
+-- What an operation on a state is answered with, and which of document 01's numbers each case is. Definitions only.
+use Prim.Native.Nat.{ℕ, zero, suc}
+use Rattle.rbitcoin_mempool.specs.declared.answer.Outcome.{Outcome}
+use Rattle.rbitcoin_mempool.specs.declared.answer.Outcome.the-variants.{Done, Refused}
+
+-- it was done, or refused with a number
+pub data Verdict : Type 0 where
+  done : Verdict
+  refused : ℕ → Verdict
+
+abbrev pub verdict : Outcome → Verdict
+verdict Done = done
+verdict (Refused k) = refused k
+
+-- of a refusal's number, 0 for no refusal
+unfoldable pub verdictOf : ℕ → Verdict
+verdictOf zero = done
+verdictOf (suc k) = refused (suc k)

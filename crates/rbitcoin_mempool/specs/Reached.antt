@@ -1,0 +1,22 @@
+-- The windows that the public functions reach. Definitions only.
+use Prim.Native.Nat.{ℕ}
+use mathlib.Core.List.{List}
+use lib.ListN.{length}
+use lib.Ieee.{Float}
+use Rattle.rbitcoin_mempool.specs.Windows.{Windows, windows, opened, pushBackOf, pushFrontOf, popBackOf, popFrontOf, rebuiltOf}
+
+-- a pop leaves the memory as it is
+abbrev pub popBackIn : Windows → Windows
+popBackIn w = windows (popBackOf (w .state)) (w .hurdles) (w .befores) (w .aheads)
+
+abbrev pub popFrontIn : Windows → Windows
+popFrontIn w = windows (popFrontOf (w .state)) (w .hurdles) (w .befores) (w .aheads)
+
+-- from an opening, a refused one too, by any calls, refused ones too, nobody else writing to the memory
+pub data Reached : Windows → Type 0 where
+  by-new : (targets : List ℕ) (capacity : ℕ) (hs : List ℕ) (bs : List Float) (ds : List ℕ) → Reached (windows (opened targets capacity (length hs) (length bs) (length ds)) hs bs ds)
+  by-push-back : (w : Windows) (x : ℕ) → Reached w → Reached (pushBackOf x w)
+  by-push-front : (w : Windows) (x : ℕ) → Reached w → Reached (pushFrontOf x w)
+  by-pop-back : (w : Windows) → Reached w → Reached (popBackIn w)
+  by-pop-front : (w : Windows) → Reached w → Reached (popFrontIn w)
+  by-rebuild : (w : Windows) (xs : List ℕ) → Reached w → Reached (rebuiltOf xs w)

@@ -1,0 +1,92 @@
+// Log-rate interpolation between the two order statistics around a confidence.
+ghost use mathlib.Core.Path.{_≡_};
+ghost use lib.ListN.{getD};
+ghost use Rattle.rbitcoin_mempool.specs.Answer.{answer};
+ghost use Rattle.rbitcoin_mempool.specs.Quantile.{rankOf, lowerPlace, upperPlace, blendOf, between, quantileOf, inUnit, logQuantile, logQuantileLeaves};
+use crate::answer::RateAnswer;
+
+fn rank_of(confidence: f64, n: usize) -> f64
+    ensures { λ r. ⌜ r ≡ rankOf confidence n ⌝ }
+{
+    let m = num::float::from_u64(n as u64);
+    num::float::clamp(confidence * m, 1.0, m)
+}
+
+fn lower_place(rank: f64) -> usize
+    ensures { λ r. ⌜ r ≡ lowerPlace rank ⌝ }
+{
+    num::word::saturating_sub(num::float::to_u64(num::float::floor(rank)), 1) as usize
+}
+
+fn upper_place(rank: f64) -> usize
+    ensures { λ r. ⌜ r ≡ upperPlace rank ⌝ }
+{
+    num::word::saturating_sub(num::float::to_u64(num::float::ceil(rank)), 1) as usize
+}
+
+fn blend(a: u64, b: u64, frac: f64) -> u64
+    ensures { λ r. ⌜ r ≡ blendOf a b frac ⌝ }
+{
+    let blended = (1.0 - frac) * num::ln::ln(a) + frac * num::ln::ln(b);
+    num::float::round_to_u64(num::exp::exp(blended))
+}
+
+// Between two neighbours; a rank that lands on one hurdle, including a repeated one, stays there.
+fn between(a: u64, b: u64, rank: f64) -> u64
+    ensures { λ r. ⌜ r ≡ between a b rank ⌝ }
+{
+    if a == b {
+        return a;
+    }
+    blend(a, b, rank - num::float::floor(rank))
+}
+
+// The quantile of a list that is left as found: its two neighbours are looked up by value.
+pub(crate) fn quantile_of(xs: &[u64], confidence: f64) -> u64
+    ensures { λ r. ⌜ r ≡ quantileOf (now (xs .entry)) confidence ⌝ }
+{
+    let rank = rank_of(confidence, xs.len());
+    let a = slices::order::nth_smallest(xs, lower_place(rank));
+    let b = slices::order::nth_smallest(xs, upper_place(rank));
+    between(a, b, rank)
+}
+
+// A confidence from 0 to 1, and no NaN.
+pub(crate) fn in_unit(confidence: f64) -> bool
+    ensures { λ r. ⌜ r ≡ inUnit confidence ⌝ }
+{
+    if 0.0 <= confidence {
+        confidence <= 1.0
+    } else {
+        false
+    }
+}
+
+fn element(xs: &[u64], k: usize) -> u64
+    ensures { λ r. ⌜ r ≡ getD (now (xs .entry)) k 0 ⌝ }
+{
+    if k < xs.len() {
+        return xs[k];
+    }
+    0
+}
+
+// The quantile; the list is left in ascending order. Refusal 6 of an empty list, then 7 of a confidence that is none;
+// a refusal leaves the list as found.
+pub fn log_quantile(outcomes: &mut [u64], confidence: f64) -> RateAnswer
+    ensures { λ r. ⌜ answer r ≡ logQuantile (now (outcomes .entry)) confidence ⌝ }
+    ensures { λ _. ⌜ now (outcomes .exit) ≡ logQuantileLeaves (now (outcomes .entry)) confidence ⌝ }
+{
+    let n = outcomes.len();
+    if n == 0 {
+        return RateAnswer::Refused(6);
+    }
+    if !in_unit(confidence) {
+        return RateAnswer::Refused(7);
+    }
+    slices::sort::sort(outcomes);
+    let rank = rank_of(confidence, n);
+    let a = element(outcomes, lower_place(rank));
+    let b = element(outcomes, upper_place(rank));
+    RateAnswer::Found(between(a, b, rank))
+}
