@@ -6,11 +6,11 @@ use Prim.Native.Nat.{ℕ, zero, suc, _≤_, _<_, min, zero-le, suc-le-suc}
 use native.Mathlib.Nat.{le-refl, le-trans, le-of-suc-le-suc, not-suc-le-zero, min-eq-left}
 use native.Mathlib.Omega.{arith}
 use lib.Dec.{leb}
-use borrow.Author.Tests.{leb-true, leb-false}
+use borrow.Author.Tests.{leb-true, leb-false, eq-eqb, ne-eqb}
 use lib.ListN.{length, getD, drop, drop-of-length-le}
 use lib.Seq.{drop-cons}
 use Rattle.rbitcoin_mempool.specs.Answer.{Answer, rate, none, refusal, lesser}
-use Rattle.rbitcoin_mempool.specs.Capacity.{leastFitting}
+use Rattle.rbitcoin_mempool.specs.Capacity.{LeastFit, Unfit, Meant, fits, leastFitting, minRateForCapacity}
 
 -- what the loop has found
 abbrev pub soFar : Bool → ℕ → Answer
@@ -38,39 +38,22 @@ module _ (p : ℕ → ℕ → Bool) (cs ss : List ℕ) (e : length cs ≡ length
     search-passes f = i ∙ sym (step j h ∙ rw f)
 
 -- ---- what the answer says
--- r stands at a place of the list where it passes, and no candidate that passes is below it
-pub record Least (p : ℕ → ℕ → Bool) (cs ss : List ℕ) (r : ℕ) : Type 0 where
-  pub at : ℕ
-  pub within : at < length cs
-  pub is : getD cs at 0 ≡ r
-  pub passes : p r (getD ss at 0) ≡ true
-  pub least : (j : ℕ) → j < length cs → p (getD cs j 0) (getD ss j 0) ≡ true → r ≤ getD cs j 0
-
--- none passes
-abbrev pub Unfit : (ℕ → ℕ → Bool) → List ℕ → List ℕ → Type 0
-Unfit p cs ss = (j : ℕ) → j < length cs → p (getD cs j 0) (getD ss j 0) ≡ false
-
-abbrev pub Meant : (ℕ → ℕ → Bool) → List ℕ → List ℕ → Answer → Type 0
-Meant p cs ss (rate r) = Least p cs ss r
-Meant p cs ss none = Unfit p cs ss
-Meant p cs ss (refusal k) = ⊥
-
 module _ (p : ℕ → ℕ → Bool) (c : ℕ) (cs : List ℕ) (s : ℕ) (ss : List ℕ) where
-  first : p c s ≡ true → Unfit p cs ss → Least p (c ∷ cs) (s ∷ ss) c
+  first : p c s ≡ true → Unfit p cs ss → LeastFit p (c ∷ cs) (s ∷ ss) c
   first h u = record { at = 0; within = suc-le-suc zero-le; is = refl; passes = h; least = go }
     where
       go : (j : ℕ) → j < length (c ∷ cs) → p (getD (c ∷ cs) j 0) (getD (s ∷ ss) j 0) ≡ true → c ≤ getD (c ∷ cs) j 0
       go zero l q = le-refl c
       go (suc j) l q = absurd (true≢false (sym q ∙ u j (le-of-suc-le-suc l)))
 
-  lower : p c s ≡ true → (r : ℕ) → Least p cs ss r → c ≤ r → Least p (c ∷ cs) (s ∷ ss) c
+  lower : p c s ≡ true → (r : ℕ) → LeastFit p cs ss r → c ≤ r → LeastFit p (c ∷ cs) (s ∷ ss) c
   lower h r m o = record { at = 0; within = suc-le-suc zero-le; is = refl; passes = h; least = go }
     where
       go : (j : ℕ) → j < length (c ∷ cs) → p (getD (c ∷ cs) j 0) (getD (s ∷ ss) j 0) ≡ true → c ≤ getD (c ∷ cs) j 0
       go zero l q = le-refl c
       go (suc j) l q = le-trans o (m .least j (le-of-suc-le-suc l) q)
 
-  later : (r : ℕ) → Least p cs ss r → (p c s ≡ true → r ≤ c) → Least p (c ∷ cs) (s ∷ ss) r
+  later : (r : ℕ) → LeastFit p cs ss r → (p c s ≡ true → r ≤ c) → LeastFit p (c ∷ cs) (s ∷ ss) r
   later r m o = record { at = suc (m .at); within = suc-le-suc (m .within); is = m .is; passes = m .passes; least = go }
     where
       go : (j : ℕ) → j < length (c ∷ cs) → p (getD (c ∷ cs) j 0) (getD (s ∷ ss) j 0) ≡ true → r ≤ getD (c ∷ cs) j 0
@@ -86,12 +69,12 @@ module _ (p : ℕ → ℕ → Bool) (c : ℕ) (cs : List ℕ) (s : ℕ) (ss : Li
   fit-step h none m = first h m
   fit-step h (rate r) m = go (leb c r) refl
     where
-      go : (b : Bool) → leb c r ≡ b → Least p (c ∷ cs) (s ∷ ss) (min c r)
-      go true e = let l = leb-true c r e in subst (λ (z : ℕ). Least p (c ∷ cs) (s ∷ ss) z) (sym (min-eq-left l)) (lower h r m l)
+      go : (b : Bool) → leb c r ≡ b → LeastFit p (c ∷ cs) (s ∷ ss) (min c r)
+      go true e = let l = leb-true c r e in subst (λ (z : ℕ). LeastFit p (c ∷ cs) (s ∷ ss) z) (sym (min-eq-left l)) (lower h r m l)
       go false e =
           let l = leb-false c r e in
           let z : min c r ≡ r = omega arith in
-          subst (λ (y : ℕ). Least p (c ∷ cs) (s ∷ ss) y) (sym z) (later r m (λ q. omega arith))
+          subst (λ (y : ℕ). LeastFit p (c ∷ cs) (s ∷ ss) y) (sym z) (later r m (λ q. omega arith))
 
   pass-step : p c s ≡ false → (a : Answer) → Meant p cs ss a → Meant p (c ∷ cs) (s ∷ ss) a
   pass-step h (refusal k) m = m
@@ -108,3 +91,12 @@ search-meant p (c ∷ cs) (s ∷ ss) e = go (p c s) refl (search-meant p cs ss (
     go : (b : Bool) → p c s ≡ b → Meant p cs ss (leastFitting p cs ss) → Meant p (c ∷ cs) (s ∷ ss) (cond b (lesser c (leastFitting p cs ss)) (leastFitting p cs ss))
     go true h m = fit-step p c cs s ss h (leastFitting p cs ss) m
     go false h m = pass-step p c cs s ss h (leastFitting p cs ss) m
+
+-- refusal 1 exactly where the lists differ in length; else the least candidate that fits, or none where none fits
+pub min-rate-says : (cs ss inflow : List ℕ) (n : ℕ) → length cs ≡ length ss → Meant (fits inflow n) cs ss (minRateForCapacity cs ss inflow n)
+unfolding minRateForCapacity
+min-rate-says cs ss inflow n e = rw (eq-eqb (length cs) (length ss) e) (search-meant (fits inflow n) cs ss e)
+
+pub min-rate-refuses : (cs ss inflow : List ℕ) (n : ℕ) → (length cs ≡ length ss → ⊥) → minRateForCapacity cs ss inflow n ≡ refusal 1
+unfolding minRateForCapacity
+min-rate-refuses cs ss inflow n h = rw (ne-eqb (length cs) (length ss) h)

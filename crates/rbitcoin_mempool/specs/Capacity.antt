@@ -1,6 +1,7 @@
 -- Capacity, projected inflow and the capacity search, after fee_est.rs. Definitions only.
-use Prim.Native.Nat.{ℕ, _*_, min}
-use mathlib.Core.Bool.{Bool, false, cond}
+use mathlib.Core.Path.{_≡_}
+use Prim.Native.Nat.{ℕ, _*_, _≤_, _<_, min}
+use mathlib.Core.Bool.{Bool, true, false, cond}
 use mathlib.Core.List.{List, [], _∷_}
 use lib.Dec.{leb, eqb}
 use lib.IntN.{pos}
@@ -9,7 +10,7 @@ use lib.Ieee.{Float, fin, binary64, mul, round}
 use Rattle.num.specs.Word.{saturatingAdd, saturatingMul, greatest}
 use Rattle.num.specs.Float.{ofU64, toU64}
 use Rattle.slices.specs.Lists.{tabulate}
-use Rattle.rbitcoin_mempool.specs.Answer.{Answer, none, refusal, lesser}
+use Rattle.rbitcoin_mempool.specs.Answer.{Answer, rate, none, refusal, lesser}
 use Rattle.rbitcoin_mempool.specs.Edges.{firstBucketAbove}
 
 -- `capacity_wu` and `horizon_secs`: N blocks, N at least 1
@@ -61,3 +62,21 @@ leastFitting p (c ∷ cs) (s ∷ ss) = cond (p c s) (lesser c (leastFitting p cs
 unfoldable pub minRateForCapacity : List ℕ → List ℕ → List ℕ → ℕ → Answer
 minRateForCapacity candidates stock inflow n =
     cond (eqb (length candidates) (length stock)) (leastFitting (fits inflow n) candidates stock) (refusal 1)
+
+-- ---- what an answer of the search says, by any test of fit
+-- r stands at a place of the list where it passes, and no candidate that passes is below it
+pub record LeastFit (p : ℕ → ℕ → Bool) (cs ss : List ℕ) (r : ℕ) : Type 0 where
+  pub at : ℕ
+  pub within : at < length cs
+  pub is : getD cs at 0 ≡ r
+  pub passes : p r (getD ss at 0) ≡ true
+  pub least : (j : ℕ) → j < length cs → p (getD cs j 0) (getD ss j 0) ≡ true → r ≤ getD cs j 0
+
+-- none passes
+abbrev pub Unfit : (ℕ → ℕ → Bool) → List ℕ → List ℕ → Type 0
+Unfit p cs ss = (j : ℕ) → j < length cs → p (getD cs j 0) (getD ss j 0) ≡ false
+
+abbrev pub Meant : (ℕ → ℕ → Bool) → List ℕ → List ℕ → Answer → Type 0
+Meant p cs ss (rate r) = LeastFit p cs ss r
+Meant p cs ss none = Unfit p cs ss
+Meant p cs ss (refusal k) = ⊥

@@ -11,6 +11,7 @@ pub fn find(s: &[u8], b: u8, from: usize) -> usize
     ensures after { λ r. ⌜ (from ≤ length (now (s .entry)) → from ≤ r) ⌝ }
     ensures before { λ r. ⌜ ((k : ℕ) → from ≤ k → k < r → getD (now (s .entry)) k 0 ≡ b → ⊥) ⌝ }
     ensures found { λ r. ⌜ (from ≤ r → r < length (now (s .entry)) → getD (now (s .entry)) r 0 ≡ b) ⌝ }
+    ensures past { λ r. ⌜ (length (now (s .entry)) ≤ from → r ≡ length (now (s .entry))) ⌝ }
 {
     if s.len() <= from {
         return s.len();

@@ -26,7 +26,7 @@ shared-slice-read-if2 : tie.Need-shared-slice-read-if2 Inv-loop μ-loop
 shared-slice-read-if2 c = search needs
 
 returns-2 : tie.Need-returns-2 Inv-loop μ-loop
-returns-2 c = (omega arith, ((λ h. omega arith), ((λ k f l. c .before .before .before .loop .inv .2 k l f), (λ a b. search needs))))
+returns-2 c = (omega arith, ((λ h. omega arith), ((λ k f l. c .before .before .before .loop .inv .2 k l f), ((λ a b. search needs), (λ h. absurd (omega arith))))))
 
 add-i : tie.Need-add-i Inv-loop μ-loop
 add-i c = search needs
@@ -38,7 +38,7 @@ loop-again : tie.Need-loop-again Inv-loop μ-loop
 loop-again c = (search needs, omega arith, below-more _ _ (c .before .before .before .loop .inv .2) (λ f. c .if2 .left))
 
 returns-3 : tie.Need-returns-3 Inv-loop μ-loop
-returns-3 c = (omega arith, ((λ h. omega arith), ((λ k f l. c .before .loop .inv .2 k l f), (λ a b. absurd (omega arith)))))
+returns-3 c = (omega arith, ((λ h. omega arith), ((λ k f l. c .before .loop .inv .2 k l f), ((λ a b. absurd (omega arith)), (λ h. omega arith)))))
 
 pub find-spec : {M : Type 1} → statement M
 find-spec =
