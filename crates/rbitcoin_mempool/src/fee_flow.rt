@@ -174,6 +174,7 @@ impl FeeFlowMeter {
     pub fn admit(self, weight_wu: u64, rate_sat_per_kvb: u64, now: u64) -> Self
         ensures { λ r. ⌜ r ≡ noteAdmit self «weight_wu» «rate_sat_per_kvb» now ⌝ }
     {
+        let i = bucket_index(rate_sat_per_kvb);
         let last = self.last;
         let last_admit = self.last_admit;
         let weight = num::float::from_u64(weight_wu);
@@ -182,7 +183,6 @@ impl FeeFlowMeter {
         let added = weight / dt * (1.0 - kept_dt);
         let since = secs_between(last, now);
         let share = share_since(last, last_admit, now, dt, kept_dt);
-        let i = bucket_index(rate_sat_per_kvb);
         let mut m = self;
         decay_rates(&mut m.admit_wu_s, since, share);
         let x = m.admit_wu_s[i];

@@ -1,6 +1,7 @@
 //! The parts of the comparison, one a file.
 
 mod capacity;
+mod meter;
 mod num;
 
 use crate::bench::Bench;
@@ -23,4 +24,4 @@ pub trait Part {
     fn bench(&self, bench: &mut Bench);
 }
 
-pub const PARTS: &[&dyn Part] = &[&num::Num, &capacity::Capacity];
+pub const PARTS: &[&dyn Part] = &[&num::Num, &capacity::Capacity, &meter::FeeFlow];
