@@ -90,7 +90,7 @@ fn middle(lo: u64, hi: u64, r: usize, s: usize, turn: u8) -> u64
 }
 
 // The first 32 elements from lo to hi at every `stride`-th place; says how many there are.
-fn gather(xs: &[u64], lo: u64, hi: u64, stride: usize, out: &mut [u64]) -> usize
+pub(crate) fn gather(xs: &[u64], lo: u64, hi: u64, stride: usize, out: &mut [u64]) -> usize
     requires { ⌜ (0 < stride) × (stride ≤ length (now xs)) ⌝ }
     requires { ⌜ length (now out) ≡ 32 ⌝ }
 {
