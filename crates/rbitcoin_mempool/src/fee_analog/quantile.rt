@@ -41,7 +41,8 @@ fn between(a: u64, b: u64, rank: f64) -> u64
     blend(a, b, rank - num::float::floor(rank))
 }
 
-// The quantile of a list whose elements may change their order: its two neighbours are selected.
+// The quantile of a list whose elements may change their order: its two neighbours are selected. Where enough elements
+// are at most the lower one, it is the upper one too.
 pub(crate) fn quantile_of(xs: &mut [u64], confidence: f64) -> u64
     ensures { λ r. ⌜ r ≡ quantileOf (now (xs .entry)) confidence ⌝ }
 {
@@ -49,8 +50,10 @@ pub(crate) fn quantile_of(xs: &mut [u64], confidence: f64) -> u64
     let lower = lower_place(rank);
     let upper = upper_place(rank);
     let a = slices::sort::select_nth(xs, lower);
-    if lower == upper {
-        return between(a, a, rank);
+    if lower <= upper {
+        if upper < slices::order::count_at_most(xs, a) {
+            return between(a, a, rank);
+        }
     }
     let b = slices::sort::select_nth(xs, upper);
     between(a, b, rank)

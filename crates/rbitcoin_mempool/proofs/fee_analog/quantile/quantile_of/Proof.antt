@@ -1,9 +1,6 @@
 -- `fee_analog::quantile::quantile_of` meets its contract. Assumes nothing.
 use borrow.Author.Needs.{needs}
-use mathlib.Core.Path.{ap, _∙_}
-use lib.ListN.{getD}
-use Rattle.slices.specs.Sorted.{sorted}
-use Rattle.rbitcoin_mempool.proofs.Quantiles.{quantile-by, select-again}
+use Rattle.rbitcoin_mempool.proofs.Quantiles.{quantile-by, select-again, repeated}
 use Rattle.rbitcoin_mempool.proofs.fee_analog.quantile.quantile_of.Statement.{statement}
 use Rattle.rbitcoin_mempool.proofs.fee_analog.quantile.quantile_of.Tie as tie
 
@@ -19,6 +16,9 @@ upper-place-requires c κs = search needs
 select-nth-requires : tie.Need-select-nth-requires
 select-nth-requires c κs = search needs
 
+count-at-most-requires : tie.Need-count-at-most-requires
+count-at-most-requires c κs = search needs
+
 between-requires : tie.Need-between-requires
 between-requires c κs = search needs
 
@@ -27,9 +27,15 @@ same-length c = search needs
 
 returns : tie.Need-returns
 returns c =
-    let s = c .before .before .before .before .before .before .before .before .before .before .args in
-    let k = c .before .before .before .before .select-nth .ensures .found in
-    quantile-by (s .confidence) (s .xs .now) (c .before .before .before .before .before .before .before .before .rank-of .result) _ _ _ _ _ (c .before .before .before .before .before .before .before .before .rank-of .ensures) (c .before .before .before .before .before .before .before .lower-place .ensures) (c .before .before .before .before .before .before .upper-place .ensures) k (k ∙ ap (λ i. getD (sorted (s .xs .now)) i 0) (c .before .if1 .taken)) (c .between .ensures)
+    let s = c .before .before .before .before .before .before .before .before .before .before .before .before .before .args in
+    let k = c .before .before .before .before .before .before .before .select-nth .ensures in
+    quantile-by (s .confidence) (s .xs .now) (c .before .before .before .before .before .before .before .before .before .before .before .rank-of .result) _ _ _ _ _
+    (c .before .before .before .before .before .before .before .before .before .before .before .rank-of .ensures)
+    (c .before .before .before .before .before .before .before .before .before .before .lower-place .ensures)
+    (c .before .before .before .before .before .before .before .before .before .upper-place .ensures)
+    (k .found)
+    (repeated _ _ (s .xs .now) _ _ _ k (c .before .before .count-at-most .ensures) (c .before .before .before .before .if1 .taken) (c .before .if2 .taken))
+    (c .between .ensures)
 
 select-nth-requires-2 : tie.Need-select-nth-requires-2
 select-nth-requires-2 c κs = search needs
@@ -44,7 +50,13 @@ returns-2 : tie.Need-returns-2
 returns-2 c =
     let s = c .before .before .before .before .before .before .before .before .before .before .before .before .before .before .args in
     let k = c .before .before .before .before .before .before .before .before .select-nth .ensures in
-    quantile-by (s .confidence) (s .xs .now) (c .before .before .before .before .before .before .before .before .before .before .before .before .rank-of .result) _ _ _ _ _ (c .before .before .before .before .before .before .before .before .before .before .before .before .rank-of .ensures) (c .before .before .before .before .before .before .before .before .before .before .before .lower-place .ensures) (c .before .before .before .before .before .before .before .before .before .before .upper-place .ensures) (k .found) (select-again _ _ _ _ _ _ _ k (c .before .before .before .select-nth2 .ensures)) (c .between2 .ensures)
+    quantile-by (s .confidence) (s .xs .now) (c .before .before .before .before .before .before .before .before .before .before .before .before .rank-of .result) _ _ _ _ _
+    (c .before .before .before .before .before .before .before .before .before .before .before .before .rank-of .ensures)
+    (c .before .before .before .before .before .before .before .before .before .before .before .lower-place .ensures)
+    (c .before .before .before .before .before .before .before .before .before .before .upper-place .ensures)
+    (k .found)
+    (select-again _ _ _ _ _ _ _ k (c .before .before .before .select-nth2 .ensures))
+    (c .between2 .ensures)
 
 pub quantile-of-spec : {M : Type 1} → statement M
 quantile-of-spec =
@@ -54,6 +66,7 @@ quantile-of-spec =
     lower-place-requires
     upper-place-requires
     select-nth-requires
+    count-at-most-requires
     between-requires
     same-length
     returns
