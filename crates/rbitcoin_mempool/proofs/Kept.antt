@@ -1,24 +1,25 @@
 -- The windows' laws: the stored pairs of each target are the pairs of the held hurdles, of an empty state and after each operation; and each operation does to the held hurdles what it should. Assumes nothing.
-use Prim.Native.Nat.{ℕ, zero, suc, _+_, _-_, _/_, _≤_, _<_}
+use Prim.Native.Nat.{ℕ, _+_, _-_, _/_, _≤_, _<_}
 use mathlib.Core.Path.{_≡_, refl, sym, ap, _∙_, subst}
-use mathlib.Core.Logic.{_⊎_, inl, inr, ⊎-elim}
+use mathlib.Core.Logic.{⊎-elim}
 use mathlib.Core.Bool.{Bool, true, false}
 use mathlib.Core.List.{[], _∷_, _++_}
 use native.Mathlib.Omega.{arith}
 use native.Mathlib.Nat.{eq-or-lt-of-le}
 use lib.ListN.{length, drop, getD, set}
 use lib.Ieee.{Float, nan}
+use Rattle.rbitcoin_mempool.specs.declared.fee_analog.history.AnalogHistory.{AnalogHistory}
 use Rattle.slices.specs.Lists.{tabulate}
 use Rattle.slices.proofs.Lists.{same-at, tabulate-same}
 use Rattle.rbitcoin_mempool.specs.Median.{analogLookback}
 use Rattle.rbitcoin_mempool.specs.Pairs.{Pair, aheadAt, aheadOf, beforeAt, pairAt, pairsOf, windowsIn}
 use Rattle.rbitcoin_mempool.specs.Reached.{popBackIn, popFrontIn}
 use Rattle.rbitcoin_mempool.specs.Windows.{WellStored, Windows, at, freeOf, held, heldIn, movedTo, popped, pushBackOf, pushFrontOf, pushRefusalOf, roomBack, roomFront, stateRefusal, storeBack, storeFront, storedAt, storedPairs, targetAt, windows, withPairs}
-use Rattle.rbitcoin_mempool.specs.declared.fee_analog.history.AnalogHistory.{AnalogHistory}
+use Rattle.rbitcoin_mempool.proofs.Neighbors.{few}
 use Rattle.rbitcoin_mempool.proofs.Parts.{ahead-windowed, before-windowed, held-all-back, held-all-front, held-back, held-front, held-moved, length-held}
 use Rattle.rbitcoin_mempool.proofs.Pushes.{OpenBack, OpenFront, ValidIn, each-length, moved-valid, push-back-done, push-back-refused, push-front-done, push-front-refused, room-back-open, room-front-open, store-back-valid, store-front-valid}
 use Rattle.rbitcoin_mempool.proofs.Puts.{ahead-least}
-use Rattle.rbitcoin_mempool.proofs.Refusals.{accepted, popped-none, popped-refused, popped-some}
+use Rattle.rbitcoin_mempool.proofs.Refusals.{accepted, popped-none, popped-refused, popped-some, zero-or-not}
 use Rattle.rbitcoin_mempool.proofs.Stored.{Holds, back-holds, front-holds, move-holds, pop-back-holds, pop-front-holds, put-long}
 use Rattle.rbitcoin_mempool.proofs.Values.{back-kept, back-moved, front-kept, front-moved, valid-same}
 
@@ -71,10 +72,6 @@ module _ (w : Windows) (v : w .state .start + w .state .count ≤ length (w .hur
       tabulate-same (storedAt w d) (pairAt (heldIn w) target) (analogLookback target) (windowsIn (w .state .count) target)
       (λ t p q. let g = window-start (w .state .count) target t p q in pair-same (h .befores-hold d k t p g) (h .aheads-hold d k t p g))
       ∙ sym (as-long d)
-
-pub zero-or-not : (n : ℕ) → (n ≡ 0) ⊎ (n ≡ 0 → ⊥)
-zero-or-not zero = inl refl
-zero-or-not (suc n) = inr (λ e. omega arith)
 
 -- valid windows whose pairs are at their places
 pub record Good (w : Windows) : Type 0 where

@@ -26,3 +26,4 @@ pub mod Padding
 pub mod Cuts
 pub mod Neighbors
 pub mod Scans
+pub mod CasesWindows

@@ -2,7 +2,7 @@
 use mathlib.Core.Path.{_≡_, refl, sym, ap, ap₂, _∙_}
 use mathlib.Core.Bool.{Bool, true, false, _&&_, _||_}
 use mathlib.Core.List.{List, [], _∷_, _++_, map, map-append, append-assoc, append-nil}
-use Prim.Native.Nat.{ℕ, _+_, _*_, _≤_, _<_}
+use Prim.Native.Nat.{ℕ, suc, zero, _+_, _*_, _≤_, _<_}
 use native.Mathlib.Numerals.{add-one}
 use native.Mathlib.Omega.{arith}
 use lib.IntN.{ℤ, negsuc}
@@ -139,6 +139,11 @@ module _ (logs : List Float) (level : Float) (start out : List ℕ) (i : ℕ) (h
       let e : i ≡ length logs = omega (arith, h .within) in
       sym (take-append-drop i out)
       ∙ ap₂ (λ a b. a ++ b) (h .front ∙ ap (distances level) (take-all i logs l)) (h .rest ∙ ap (λ j. drop j start) e)
+
+pub distances-at : (logs : List Float) (level : Float) (i : ℕ) (z : Float) → i < length logs → getD (distances level logs) i 0 ≡ absBits (sub binary64 (getD logs i z) level)
+distances-at [] level i z r = absurd (let f : ⊥ = omega arith in f)
+distances-at (l ∷ logs) level zero z r = refl
+distances-at (l ∷ logs) level (suc i) z r = distances-at logs level i z (omega arith)
 
 pub distances-length : (logs : List Float) (level : Float) → length (distances level logs) ≡ length logs
 distances-length logs level = length-map logs (λ l. absBits (sub binary64 l level))

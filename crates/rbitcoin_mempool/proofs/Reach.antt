@@ -1,17 +1,25 @@
 -- After any calls the stored pairs of each target are the pairs of the held hurdles. Assumes nothing.
-use mathlib.Core.Path.{refl}
+use mathlib.Core.Path.{_≡_, refl, sym, ap, _∙_}
 use mathlib.Core.Logic.{⊎-elim}
 use mathlib.Core.List.{List}
-use Prim.Native.Nat.{ℕ}
+use Prim.Native.Nat.{ℕ, _<_}
 use native.Mathlib.Omega.{arith}
 use lib.ListN.{length}
 use lib.Ieee.{Float}
-use borrow.Author.Tests.{eq-eqb, ne-eqb}
+use lib.Dec.{ltb}
+use mathlib.Core.Bool.{Bool, true, false, cond}
+use borrow.Author.Tests.{eq-eqb, ne-eqb, ltb-true}
+use Rattle.rbitcoin_mempool.specs.Answer.{none}
+use Rattle.rbitcoin_mempool.specs.Pairs.{pairsOf, windowsIn}
 use Rattle.rbitcoin_mempool.specs.Reached.{Reached, by-new, by-pop-back, by-pop-front, by-push-back, by-push-front, by-rebuild}
-use Rattle.rbitcoin_mempool.specs.Windows.{Valid, WellStored, Windows, fresh, openRefusal, opened, unopened, windows}
-use Rattle.rbitcoin_mempool.proofs.Kept.{Good, empty-good, good-stored, pop-back-good, pop-front-good, push-back-good, push-front-good, zero-or-not}
+use Rattle.rbitcoin_mempool.specs.Scan.{rateAmong, rateIn}
+use Rattle.rbitcoin_mempool.specs.Windows.{Valid, WellStored, Windows, findTarget, fresh, heldIn, openRefusal, opened, pairCount, storedPairs, targetAt, unopened, windows}
+use Rattle.rbitcoin_mempool.proofs.Grown.{pairs-counted}
+use Rattle.rbitcoin_mempool.proofs.Kept.{Good, empty-good, good-stored, pop-back-good, pop-front-good, push-back-good, push-front-good}
+use Rattle.rbitcoin_mempool.proofs.Parts.{length-held}
 use Rattle.rbitcoin_mempool.proofs.Rebuilds.{rebuild-good}
-use Rattle.rbitcoin_mempool.proofs.Refusals.{lent}
+use Rattle.rbitcoin_mempool.proofs.Refusals.{lent, zero-or-not}
+use Rattle.rbitcoin_mempool.proofs.Scans.{counted-tracked, tracked-pairs}
 
 unopened-valid : (h b a : ℕ) → Valid unopened h b a
 unfolding unopened
@@ -36,3 +44,26 @@ reached-good (by-rebuild u xs r) = rebuild-good xs u (reached-good r)
 
 pub reached-stored : (w : Windows) → Reached w → WellStored w
 reached-stored w r = good-stored w (reached-good r)
+
+well-stored : (w : Windows) → WellStored w → (d : ℕ) → d < w .state .tracked → storedPairs w d ≡ pairsOf (heldIn w) (targetAt (w .state) d)
+unfolding WellStored
+well-stored w h = h
+
+-- so `pairs` counts the pairs of the stored hurdles, and a rate is one of the hurdles alone
+module _ (w : Windows) (r : Reached w) (n : ℕ) where
+  count-held : length (heldIn w) ≡ w .state .count
+  count-held = let v = reached-good r .valid in let i = v .within in let j = v .hurdles-fit in length-held (w .state) (w .hurdles) (omega arith)
+
+  pub reached-pairs : findTarget (w .state) n < w .state .tracked → pairCount (w .state) n ≡ length (pairsOf (heldIn w) n)
+  reached-pairs h = sym (counted-tracked (w .state) n h) ∙ ap (λ c. windowsIn c n) (sym count-held) ∙ sym (pairs-counted (heldIn w) n)
+
+  pub reached-rate : (c : Float) → rateIn w n c ≡ cond (ltb (findTarget (w .state) n) (w .state .tracked)) (rateAmong (heldIn w) (pairsOf (heldIn w) n) n c) none
+  unfolding rateIn
+  reached-rate c = go (ltb (findTarget (w .state) n) (w .state .tracked)) refl
+    where
+      go : (b : Bool) → ltb (findTarget (w .state) n) (w .state .tracked) ≡ b
+          → cond b (rateAmong (heldIn w) (storedPairs w (findTarget (w .state) n)) n c) none ≡ cond b (rateAmong (heldIn w) (pairsOf (heldIn w) n) n c) none
+      go true e =
+          let h = ltb-true _ _ e in
+          ap (λ ps. rateAmong (heldIn w) ps n c) (well-stored w (reached-stored w r) (findTarget (w .state) n) h ∙ tracked-pairs (w .state) n h (heldIn w))
+      go false e = refl

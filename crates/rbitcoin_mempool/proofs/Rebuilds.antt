@@ -9,10 +9,11 @@ use lib.Seq.{drop-cons}
 use borrow.Author.Tests.{eq-eqb, ne-eqb}
 use mathlib.Core.Logic.{⊎-elim}
 use Rattle.rbitcoin_mempool.specs.Windows.{WellStored, Windows, emptied, held, heldIn, pushAll, pushBackOf, pushRefusalOf, rebuildRefusalOf, rebuiltOf}
-use Rattle.rbitcoin_mempool.proofs.Kept.{Good, empty-good, good-stored, push-back-good, zero-or-not}
+use Rattle.rbitcoin_mempool.proofs.Kept.{Good, empty-good, good-stored, push-back-good}
+use Rattle.rbitcoin_mempool.proofs.Neighbors.{few}
 use Rattle.rbitcoin_mempool.proofs.Parts.{length-held}
 use Rattle.rbitcoin_mempool.proofs.Pushes.{ValidIn}
-use Rattle.rbitcoin_mempool.proofs.Refusals.{accepts, rebuild-accepted}
+use Rattle.rbitcoin_mempool.proofs.Refusals.{accepts, rebuild-accepted, zero-or-not}
 use Rattle.rbitcoin_mempool.proofs.Views.{push-back-capacity, push-back-held}
 
 pub all-turn : (xs : List ℕ) (i : ℕ) (w u v : Windows) → i < length xs → v ≡ pushBackOf (getD xs i 0) w → pushAll (drop i xs) w ≡ u → pushAll (drop (i + 1) xs) v ≡ u

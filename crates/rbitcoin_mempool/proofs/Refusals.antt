@@ -2,6 +2,7 @@
 use Prim.Native.Nat.{ℕ, zero, suc, _+_, _-_, _*_, _≤_, _<_}
 use mathlib.Core.Path.{_≡_, refl, sym, ap, _∙_}
 use mathlib.Core.List.{List}
+use mathlib.Core.Logic.{_⊎_, inl, inr}
 use mathlib.Core.Bool.{Bool, true, false, cond}
 use native.Mathlib.Omega.{arith}
 use native.Mathlib.Nat.{mul-le-mul}
@@ -11,6 +12,10 @@ use Rattle.rbitcoin_mempool.specs.declared.fee_analog.history.AnalogHist
 use Rattle.rbitcoin_mempool.specs.Outcome.{done, refused, verdictOf}
 use Rattle.rbitcoin_mempool.specs.Scan.{scanRefusal}
 use Rattle.rbitcoin_mempool.specs.Windows.{Valid, at, fresh, lentRefusal, openRefusal, opened, orElse, popped, pushRefusal, rebuildRefusal, sizeRefusal, stateRefusal, unopened}
+
+pub zero-or-not : (n : ℕ) → (n ≡ 0) ⊎ (n ≡ 0 → ⊥)
+zero-or-not zero = inl refl
+zero-or-not (suc n) = inr (λ e. omega arith)
 
 -- a choice that is 0 did not choose k
 not-chosen : (b : Bool) (k x : ℕ) → 0 < k → cond b k x ≡ 0 → (b ≡ false) × (x ≡ 0)
@@ -111,7 +116,7 @@ module _ (s : AnalogHistory) (to : ℕ) where
 
 -- valid windows with room are accepted
 module _ (s : AnalogHistory) (h b a : ℕ) (v : Valid s h b a) where
-  valid-state : stateRefusal s ≡ 0
+  pub valid-state : stateRefusal s ≡ 0
   unfolding stateRefusal
   valid-state = rw (le-ltb _ _ (v .few), le-ltb _ _ (v .small), le-ltb _ _ (v .within))
 

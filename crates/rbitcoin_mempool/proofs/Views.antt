@@ -6,13 +6,15 @@ use mathlib.Core.Bool.{Bool, true, false, cond}
 use mathlib.Core.List.{List, [], _∷_, _++_}
 use native.Mathlib.Omega.{arith}
 use native.Mathlib.Nat.{eq-or-lt-of-le}
-use lib.ListN.{drop, getD}
+use lib.Seq.{take-at}
+use lib.ListN.{length, length-append, take}
 use lib.Dec.{eqb}
+use Rattle.rbitcoin_mempool.specs.Pairs.{popBack, popFront, pushBack, pushFront}
 use Rattle.rbitcoin_mempool.specs.Reached.{popBackIn, popFrontIn}
 use Rattle.rbitcoin_mempool.specs.Windows.{Windows, freeOf, held, heldIn, movedTo, pushBackOf, pushFrontOf, pushRefusalOf, roomBack, roomFront, stateRefusal, storeBack, storeFront, withPairs}
 use Rattle.rbitcoin_mempool.proofs.Parts.{held-all-back, held-all-front, held-back, held-front, held-moved}
 use Rattle.rbitcoin_mempool.proofs.Pushes.{OpenBack, OpenFront, ValidIn, push-back-done, push-front-done, room-back-open, room-front-open}
-use Rattle.rbitcoin_mempool.proofs.Refusals.{accepted, popped-some}
+use Rattle.rbitcoin_mempool.proofs.Refusals.{accepted, popped-none, popped-some, valid-state, zero-or-not}
 use Rattle.rbitcoin_mempool.proofs.Values.{back-kept, back-moved, front-kept, front-moved}
 
 module _ (w : Windows) (v : ValidIn w) where
@@ -43,32 +45,51 @@ unfolding withPairs storeFront
 store-front-held w x o = let i = o .room in let k = o .valid .within in let j = o .valid .hurdles-fit in held-front (w .state) (w .hurdles) x i (omega arith)
 
 module _ (w : Windows) (x : ℕ) (z : pushRefusalOf w ≡ 0) where
-  pub push-back-held : heldIn (pushBackOf x w) ≡ heldIn w ++ (x ∷ [])
+  pub push-back-held : heldIn (pushBackOf x w) ≡ pushBack x (heldIn w)
   push-back-held =
       let o = accepted (w .state) _ _ _ z in
       subst (λ (u : Windows). heldIn u ≡ heldIn w ++ (x ∷ [])) (push-back-done w x z)
       (store-back-held (roomBack w) x (room-back-open w (o .valid) (o .room)) ∙ ap (λ (l : List ℕ). l ++ (x ∷ [])) (back-room-held w (o .valid) (o .room)))
 
-  pub push-front-held : heldIn (pushFrontOf x w) ≡ x ∷ heldIn w
+  pub push-front-held : heldIn (pushFrontOf x w) ≡ pushFront x (heldIn w)
   push-front-held =
       let o = accepted (w .state) _ _ _ z in
       subst (λ (u : Windows). heldIn u ≡ x ∷ heldIn w) (push-front-done w x z)
       (store-front-held (roomFront w) x (room-front-open w (o .valid) (o .room)) ∙ ap (λ (l : List ℕ). x ∷ l) (front-room-held w (o .valid) (o .room)))
 
-module _ (w : Windows) (v : ValidIn w) (z : stateRefusal (w .state) ≡ 0) (p : w .state .count ≡ 0 → ⊥) where
-  pub pop-back-held : heldIn w ≡ heldIn (popBackIn w) ++ (getD (drop (w .state .start) (w .hurdles)) (w .state .count - 1) 0 ∷ [])
-  pop-back-held =
-      let i = v .within in
-      let j = v .hurdles-fit in
-      held-all-back (w .state) (w .hurdles) (omega arith) (omega arith)
-      ∙ ap (λ (s : _). held s (w .hurdles) ++ (getD (drop (w .state .start) (w .hurdles)) (w .state .count - 1) 0 ∷ [])) (popped-some (w .state) (w .state .start) z p)
+-- the last of a list dropped
+drop-last : (hs gs : List ℕ) (x : ℕ) → hs ≡ gs ++ (x ∷ []) → gs ≡ popBack hs
+drop-last hs gs x e =
+    let n : length hs - 1 ≡ length gs = omega (arith, ap length e ∙ length-append gs (x ∷ [])) in
+    sym (ap (λ l. take (length hs - 1) l) e ∙ take-at gs (x ∷ []) (length hs - 1) (sym n))
 
-  pub pop-front-held : heldIn w ≡ getD (w .hurdles) (w .state .start) 0 ∷ heldIn (popFrontIn w)
-  pop-front-held =
-      let i = v .within in
+module _ (w : Windows) (v : ValidIn w) where
+  state-taken : stateRefusal (w .state) ≡ 0
+  state-taken = valid-state (w .state) _ _ _ v
+
+  none-held : w .state .count ≡ 0 → heldIn w ≡ []
+  unfolding held
+  none-held e = rw e
+
+  pub pop-back-held : heldIn (popBackIn w) ≡ popBack (heldIn w)
+  pop-back-held =
+      ⊎-elim
+      (λ n. ap (λ (s : _). held s (w .hurdles)) (sym (popped-none (w .state) (w .state .start) state-taken n)) ∙ none-held n ∙ sym (ap popBack (none-held n)))
+      (λ p. let i = v .within in
       let j = v .hurdles-fit in
-      held-all-front (w .state) (w .hurdles) (omega arith) (omega arith)
-      ∙ ap (λ (s : _). getD (w .hurdles) (w .state .start) 0 ∷ held s (w .hurdles)) (popped-some (w .state) (w .state .start + 1) z p)
+      ap (λ (s : _). held s (w .hurdles)) (sym (popped-some (w .state) (w .state .start) state-taken p))
+      ∙ drop-last (heldIn w) _ _ (held-all-back (w .state) (w .hurdles) (omega arith) (omega arith)))
+      (zero-or-not (w .state .count))
+
+  pub pop-front-held : heldIn (popFrontIn w) ≡ popFront (heldIn w)
+  pop-front-held =
+      ⊎-elim
+      (λ n. ap (λ (s : _). held s (w .hurdles)) (sym (popped-none (w .state) (w .state .start + 1) state-taken n)) ∙ none-held n ∙ sym (ap popFront (none-held n)))
+      (λ p. let i = v .within in
+      let j = v .hurdles-fit in
+      ap (λ (s : _). held s (w .hurdles)) (sym (popped-some (w .state) (w .state .start + 1) state-taken p))
+      ∙ sym (ap popFront (held-all-front (w .state) (w .hurdles) (omega arith) (omega arith))))
+      (zero-or-not (w .state .count))
 
 -- a push keeps the capacity
 pub push-back-capacity : (w : Windows) (x : ℕ) → pushBackOf x w .state .capacity ≡ w .state .capacity

@@ -1,5 +1,5 @@
 -- The pairs that looked like now: those in band, and the nearest. Definitions only.
-use Prim.Native.Nat.{ℕ, suc, _+_}
+use Prim.Native.Nat.{ℕ, suc, _+_, _≤_, _<_}
 use mathlib.Core.Bool.{Bool, false, cond}
 use mathlib.Core.List.{List, [], _∷_, map}
 use lib.Dec.{ltb}
@@ -49,6 +49,11 @@ nearestFrom m ds i (v ∷ vs) = cond (ltb (nearer ds i) m) (v ∷ nearestFrom m 
 
 abbrev pub nearest : ℕ → List ℕ → List ℕ → List ℕ
 nearest m ds vs = nearestFrom m ds 0 vs
+
+-- a distance that cuts off the m nearest: fewer than m are below it, and m at the least are not above it
+pub record Cut (m : ℕ) (ds : List ℕ) (cut : ℕ) : Type 0 where
+  pub few : below cut ds < m
+  pub many : m ≤ below cut ds + equal cut ds
 
 unfoldable pub outcomesNearest : Float → List Pair → List ℕ
 outcomesNearest now ps = nearest 200 (map (distance now) ps) (map (λ (p : Pair). p .ahead) ps)

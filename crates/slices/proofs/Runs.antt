@@ -6,11 +6,11 @@ use native.Mathlib.Numerals.{add-one}
 use native.Mathlib.Omega.{arith}
 use native.Mathlib.Nat.{add-sub-of-le}
 use lib.ListN.{length, take, drop, getD, set, length-drop, List·getD-append}
-use lib.Seq.{paste-zero, paste-suc, length-paste, length-paste-head, length-take-le, getD-append-add, getD-drop, getD-take, drop-cons, take-suc, set-at, append-snoc, take-at, drop-at}
+use lib.Seq.{take-length, paste-zero, paste-suc, length-paste, length-paste-head, length-take-le, getD-append-add, getD-drop, getD-take, drop-cons, take-suc, set-at, append-snoc, take-at, drop-at}
 use mathlib.Core.Bool.{Bool, true, false, _&&_, true≢false}
 use lib.Dec.{leb}
 use borrow.Author.Tests.{le-leb, lt-leb, leb-true, leb-false}
-use Rattle.slices.specs.Lists.{moved, bothFit, copyWithin}
+use Rattle.slices.specs.Lists.{moved, bothFit, copyWithin, copyFront}
 
 module _ {A : Type 0} where
   -- an element of xs ++ ys past xs
@@ -146,3 +146,27 @@ module _ {A : Type 0} (xs : List A) (to from n : ℕ) where
   pub copied : to + n ≤ length xs → from + n ≤ length xs → copyWithin xs to from n ≡ moved xs to from n
   unfolding copyWithin bothFit
   copied h g = rw (le-leb (to + n) (length xs) h, le-leb (from + n) (length xs) g)
+
+-- a list copied to the front of another: the first i elements, one more, and all
+module _ {A : Type 0} (xs ys : List A) where
+  pub front-turn : (zs : List A) (i : ℕ) (z : A) → i < length ys → i < length xs → zs ≡ take i ys ++ drop i xs → set zs i (getD ys i z) ≡ take (i + 1) ys ++ drop (i + 1) xs
+  front-turn zs i z r q e =
+      let l : length (take i ys) ≡ i = length-take-le i ys (omega arith) in
+      ap (λ l. set l i (getD ys i z)) (e ∙ ap (λ l. take i ys ++ l) (drop-cons xs i z q))
+      ∙ set-at (take i ys) (getD xs i z) (drop (suc i) xs) (getD ys i z) i l
+      ∙ sym (append-snoc (take i ys) (getD ys i z) (drop (suc i) xs))
+      ∙ rw (add-one i, take-suc ys i z r)
+
+  pub front-none : length xs < length ys → xs ≡ copyFront xs ys
+  unfolding copyFront
+  front-none h = sym (rw (lt-leb (length ys) (length xs) h))
+
+  pub front-done : (zs : List A) (i : ℕ) → length ys ≤ length xs → i ≡ length ys → zs ≡ take i ys ++ drop i xs → zs ≡ copyFront xs ys
+  unfolding copyFront
+  front-done zs i h e q =
+      q ∙ ap (λ k. take k ys ++ drop k xs) e ∙ ap (λ l. l ++ drop (length ys) xs) (take-length ys) ∙ sym (rw (le-leb (length ys) (length xs) h))
+
+  -- for callers: what stands in front
+  pub front-copied : length ys ≤ length xs → take (length ys) (copyFront xs ys) ≡ ys
+  unfolding copyFront
+  front-copied h = rw (le-leb (length ys) (length xs) h) (take-at ys (drop (length ys) xs) (length ys) refl)

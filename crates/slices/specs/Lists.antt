@@ -21,3 +21,7 @@ bothFit len to from n = leb (to + n) len && leb (from + n) len
 -- `xs.copy_within(from..from + n, to)`; where Rust would panic, nothing is moved
 unfoldable pub copyWithin : {A : Type 0} → List A → ℕ → ℕ → ℕ → List A
 copyWithin xs to from n = cond (bothFit (length xs) to from n) (moved xs to from n) xs
+
+-- `xs[..n].copy_from_slice(ys)` with n the length of ys; where Rust would panic, nothing is copied
+unfoldable pub copyFront : {A : Type 0} → List A → List A → List A
+copyFront xs ys = cond (leb (length ys) (length xs)) (ys ++ drop (length ys) xs) xs

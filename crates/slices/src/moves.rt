@@ -3,7 +3,7 @@
 ghost use mathlib.Core.Path.{_≡_};
 ghost use Prim.Native.Nat.{_+_, _≤_};
 ghost use lib.ListN.{length};
-ghost use Rattle.slices.specs.Lists.{moved, bothFit, copyWithin};
+ghost use Rattle.slices.specs.Lists.{moved, bothFit, copyWithin, copyFront};
 
 fn down_u64(xs: &mut [u64], to: usize, from: usize, n: usize)
     requires { ⌜ (to ≤ from) × (from + n ≤ length (now xs)) ⌝ }
@@ -86,5 +86,19 @@ pub fn copy_within_f64(xs: &mut [f64], to: usize, from: usize, n: usize)
         down_f64(xs, to, from, n);
     } else {
         up_f64(xs, to, from, n);
+    }
+}
+
+// The elements of `from`, to the front of `xs`; nothing where they do not fit.
+pub fn copy_front(xs: &mut [u64], from: &[u64])
+    ensures { λ _. ⌜ now (xs .exit) ≡ copyFront (now (xs .entry)) (now (from .entry)) ⌝ }
+{
+    if xs.len() < from.len() {
+        return;
+    }
+    let mut i = 0;
+    while i < from.len() {
+        xs[i] = from[i];
+        i += 1;
     }
 }

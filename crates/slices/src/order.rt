@@ -1,7 +1,7 @@
 // The k-th smallest element of a lent list, found by value: nothing is stored and nothing moved.
 ghost use mathlib.Core.Path.{_≡_};
-ghost use Prim.Native.Nat.{_≤_, _<_};
-ghost use lib.ListN.{length, getD};
+ghost use Prim.Native.Nat.{_≤_, _<_, min};
+ghost use lib.ListN.{length, getD, drop};
 ghost use Rattle.slices.specs.Sorted.{sorted, atMost, below, equal, Most};
 ghost use Rattle.slices.specs.Least.{leastOf};
 use super::sort::insertion_sort;
@@ -21,20 +21,43 @@ pub fn count_at_most(xs: &[u64], v: u64) -> usize
     n
 }
 
-// The least element, and the largest `u64` where there is none.
-pub fn least_of(xs: &[u64]) -> u64
-    ensures { λ r. ⌜ r ≡ leastOf (now (xs .entry)) ⌝ }
+fn smaller(a: u64, b: u64) -> u64
+    ensures { λ r. ⌜ r ≡ min a b ⌝ }
 {
-    let mut m = u64::MAX;
-    let mut i = 0;
+    if a < b { a } else { b }
+}
+
+// The least of m and the elements from place i on.
+fn least_from(xs: &[u64], i: usize, m: u64) -> u64
+    requires { ⌜ i ≤ length (now xs) ⌝ }
+    ensures { λ r. ⌜ r ≡ min m (leastOf (drop i (now (xs .entry)))) ⌝ }
+{
+    let mut m = m;
+    let mut i = i;
     while i < xs.len() {
-        let x = xs[i];
-        if x < m {
-            m = x;
-        }
+        m = smaller(xs[i], m);
         i += 1;
     }
     m
+}
+
+// The least element, and the largest `u64` where there is none. Four are kept at a time, none of which waits for another.
+pub fn least_of(xs: &[u64]) -> u64
+    ensures { λ r. ⌜ r ≡ leastOf (now (xs .entry)) ⌝ }
+{
+    let mut a = u64::MAX;
+    let mut b = u64::MAX;
+    let mut c = u64::MAX;
+    let mut d = u64::MAX;
+    let mut i = 0;
+    while xs.len() - i >= 4 {
+        a = smaller(xs[i], a);
+        b = smaller(xs[i + 1], b);
+        c = smaller(xs[i + 2], c);
+        d = smaller(xs[i + 3], d);
+        i += 4;
+    }
+    least_from(xs, i, smaller(smaller(a, b), smaller(c, d)))
 }
 
 // A bound from above.
@@ -90,7 +113,7 @@ fn middle(lo: u64, hi: u64, r: usize, s: usize, turn: u8) -> u64
 }
 
 // The first 32 elements from lo to hi at every `stride`-th place; says how many there are.
-fn gather(xs: &[u64], lo: u64, hi: u64, stride: usize, out: &mut [u64]) -> usize
+pub(crate) fn gather(xs: &[u64], lo: u64, hi: u64, stride: usize, out: &mut [u64]) -> usize
     requires { ⌜ (0 < stride) × (stride ≤ length (now xs)) ⌝ }
     requires { ⌜ length (now out) ≡ 32 ⌝ }
 {

@@ -3,11 +3,11 @@
 ghost use mathlib.Core.Path.{_≡_};
 ghost use mathlib.Core.Bool.{_&&_};
 ghost use mathlib.Core.List.{_++_};
-ghost use Prim.Native.Nat.{_<_, _≤_};
+ghost use Prim.Native.Nat.{_-_, _≤_};
 ghost use lib.ListN.{length, take, drop};
 ghost use lib.Ieee.{le, neg};
 ghost use Rattle.slices.specs.Sorted.{below};
-ghost use Rattle.rbitcoin_mempool.specs.Nearest.{paired, distances, outcomesInBand, nearest, outcomesNearest, neighbors};
+ghost use Rattle.rbitcoin_mempool.specs.Nearest.{Cut, paired, distances, outcomesInBand, nearest, outcomesNearest, neighbors};
 ghost use Rattle.rbitcoin_mempool.specs.Quantile.{quantileOf};
 use super::ANALOG_MIN_NEIGHBORS;
 use super::quantile::quantile_of;
@@ -63,20 +63,27 @@ fn count_below(xs: &[u64], v: u64) -> usize
 }
 
 // The outcomes of the m nearest, oldest first, to the front of `out`: all that are nearer than the cut, and of those at
-// the cut the oldest, as many as are missing. What stood behind them stays.
-fn collect_nearest(ds: &[u64], vs: &[u64], m: usize, out: &mut [u64])
-    requires { ⌜ length (now ds) ≡ length (now vs) ⌝ }
-    requires { ⌜ 0 < m ⌝ }
-    requires { ⌜ m ≤ length (now ds) ⌝ }
+// the cut the oldest, `wanted` of them. What stood behind them stays.
+fn collect_nearest(
+    logs: &[f64],
+    level: f64,
+    vs: &[u64],
+    cut: u64,
+    wanted: usize,
+    m: usize,
+    out: &mut [u64],
+)
+    requires { ⌜ length (now logs) ≡ length (now vs) ⌝ }
+    requires { ⌜ Cut m (distances level (now logs)) cut ⌝ }
+    requires { ⌜ wanted ≡ m - below cut (distances level (now logs)) ⌝ }
     requires { ⌜ m ≤ length (now out) ⌝ }
-    ensures { λ _. ⌜ now (out .exit) ≡ nearest m (now (ds .entry)) (now (vs .entry)) ++ drop m (now (out .entry)) ⌝ }
+    ensures { λ _. ⌜ now (out .exit) ≡ nearest m (distances level (now (logs .entry))) (now (vs .entry)) ++ drop m (now (out .entry)) ⌝ }
 {
-    let cut = slices::order::nth_smallest(ds, m - 1);
-    let mut left = m - count_below(ds, cut);
+    let mut left = wanted;
     let mut n: usize = 0;
     let mut i = 0;
-    while i < ds.len() {
-        let d = ds[i];
+    while i < logs.len() {
+        let d = num::float::abs_bits(logs[i] - level);
         if d < cut {
             out[n] = vs[i];
             n += 1;
@@ -93,7 +100,8 @@ fn collect_nearest(ds: &[u64], vs: &[u64], m: usize, out: &mut [u64])
     }
 }
 
-// The quantile of the 200 outcomes nearest to a level.
+// The quantile of the 200 outcomes nearest to a level. The cut, the 200th least distance, is selected among the
+// distances, which changes their order: those of the pairs are then worked out once more.
 fn nearest_quantile(
     logs: &[f64],
     outcomes: &[u64],
@@ -107,9 +115,11 @@ fn nearest_quantile(
 {
     fill_distances(logs, level, scratch);
     let n = logs.len();
+    let cut = slices::sort::select_nth(&mut scratch[..n], 199);
+    let wanted = 200 - count_below(&scratch[..n], cut);
     let mut near = [0u64; 200];
-    collect_nearest(&scratch[..n], outcomes, 200, &mut near);
-    quantile_of(&near, confidence)
+    collect_nearest(logs, level, outcomes, cut, wanted, 200, &mut near);
+    quantile_of(&mut near, confidence)
 }
 
 // The quantile of the outcomes in band, or of the 200 nearest where fewer are in band.
@@ -128,5 +138,5 @@ pub(crate) fn neighbors_quantile(
     if n < ANALOG_MIN_NEIGHBORS {
         return nearest_quantile(logs, outcomes, level, confidence, scratch);
     }
-    quantile_of(&scratch[..n], confidence)
+    quantile_of(&mut scratch[..n], confidence)
 }

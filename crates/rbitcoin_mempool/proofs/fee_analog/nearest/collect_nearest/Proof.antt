@@ -1,71 +1,69 @@
--- `fee_analog::nearest::collect_nearest` meets its contract. The loop's invariant is `Collecting` of `proofs/Cuts.antt`. Assumes nothing.
+-- `fee_analog::nearest::collect_nearest` meets its contract. The loop's invariant is `Collecting` of proofs/Cuts.antt. Assumes nothing.
 use borrow.Author.Needs.{needs}
 use native.Mathlib.Omega.{arith}
-use mathlib.Core.Path.{ap}
+use mathlib.Core.Path.{_≡_, sym, _∙_}
 use mathlib.Core.Logic.{⊎-elim}
-use Prim.Native.Nat.{_+_, _-_, _*_, _^_, _<_}
+use Prim.Native.Nat.{ℕ, _+_, _-_, _*_, _^_, _<_}
 use lib.ListN.{length, getD}
-use Rattle.num.specs.Float.{cut}
-use Rattle.rbitcoin_mempool.proofs.Cuts.{Collecting, Cut, collect-below, collect-end, collect-level, collect-start, cut-at, pass-far, pass-level, room-below, room-level}
+use lib.Ieee.{Float}
+use mathlib.Core.List.{List}
+use Rattle.rbitcoin_mempool.specs.Nearest.{distances}
+use Rattle.rbitcoin_mempool.proofs.Neighbors.{distances-at, distances-length}
+use Rattle.rbitcoin_mempool.proofs.Cuts.{Collecting, collect-start, collect-below, collect-level, pass-level, pass-far, room-below, room-level, collect-end}
 use Rattle.rbitcoin_mempool.proofs.fee_analog.nearest.collect_nearest.Statement.{statement}
 use Rattle.rbitcoin_mempool.proofs.fee_analog.nearest.collect_nearest.Tie as tie
 
 abbrev Inv-loop : tie.InvT-loop
-Inv-loop ds vs m out₀ cut left₀ n₀ i₀ out left n i = Cut m ds cut × Collecting m ds vs out₀ cut out left n i
+Inv-loop logs level vs cut wanted m out₀ left₀ n₀ i₀ out left n i = Collecting m (distances level logs) vs out₀ cut out left n i
 
 abbrev μ-loop : tie.MeasureT-loop
-μ-loop ds vs m out₀ cut left₀ n₀ i₀ out left n i = length ds - i
+μ-loop logs level vs cut wanted m out₀ left₀ n₀ i₀ out left n i = length logs - i
+
+same : (logs : List Float) (vs : List ℕ) (level : Float) → length logs ≡ length vs → length (distances level logs) ≡ length vs
+same logs vs level e = distances-length logs level ∙ e
+
+-- the turn's distance is that of its place
+in-range : (b : tie.After-abs-bits Inv-loop μ-loop) → b .before .before .before .loop .i < length (distances (b .before .before .before .before .before .before .before .args .level) (b .before .before .before .before .before .before .before .args .logs .now))
+in-range b = omega (arith, distances-length (b .before .before .before .before .before .before .before .args .logs .now) (b .before .before .before .before .before .before .before .args .level))
+
+distance-here : (b : tie.After-abs-bits Inv-loop μ-loop) → b .abs-bits .result ≡ getD (distances (b .before .before .before .before .before .before .before .args .level) (b .before .before .before .before .before .before .before .args .logs .now)) (b .before .before .before .loop .i) 0
+distance-here b = b .abs-bits .ensures ∙ sym (distances-at (b .before .before .before .before .before .before .before .args .logs .now) (b .before .before .before .before .before .before .before .args .level) (b .before .before .before .loop .i) _ (omega arith))
 
 -- there is room for one more outcome, and its place fits
 Room : tie.At-loop Inv-loop μ-loop → Type 0
 Room l = (l .loop .n < length (l .loop .out)) × (l .loop .n * 8 < 2 ^ 63) × (l .loop .n + 1 < 2 ^ 64)
 
-module _ (l : tie.At-loop Inv-loop μ-loop) (i : l .loop .i < length (l .before .before .before .before .before .before .args .ds .now)) where
-  sized : l .loop .n < length (l .loop .out) → Room l
-  unfolding Room
-  sized h =
-      let s = l .before .before .before .before .before .before in
-      let g = s .good .1 .1 .1 .0 in
-      let e = l .loop .inv .1 .size in
-      (h, omega (arith, g .1), omega (arith, g .0))
+sized : (l : tie.At-loop Inv-loop μ-loop) → l .loop .n < length (l .loop .out) → Room l
+unfolding Room
+sized l h =
+    let s = l .before .before .before .before in
+    let g = s .good .1 .1 .1 .1 .1 .1 .0 in
+    let e = l .loop .inv .size in
+    (h, omega (arith, g .1), omega (arith, g .0))
 
-  roomBelow : getD (l .before .before .before .before .before .before .args .ds .now) (l .loop .i) 0 < l .before .before .nth-smallest .result → Room l
-  roomBelow h =
-      let s = l .before .before .before .before .before .before in
-      sized (room-below _ _ (s .args .vs .now) _ _ _ _ _ _ (l .loop .inv .0) (l .loop .inv .1) (s .pre .0) (s .pre .1 .1 .1) i h)
+roomBelow : (t : tie.Then1 Inv-loop μ-loop) → Room (t .before .before .before .before)
+roomBelow t =
+    let l = t .before .before .before .before in
+    let s = l .before .before .before .before in
+    sized l (room-below _ _ (s .args .vs .now) _ _ _ _ _ _ (s .pre .1 .0) (l .loop .inv) (same (s .args .logs .now) (s .args .vs .now) (s .args .level) (s .pre .0)) (s .pre .1 .1 .1) (in-range (t .before)) (omega (arith, distance-here (t .before), t .if1 .taken)))
 
-  roomLevel : 0 < l .loop .left → Room l
-  roomLevel h =
-      let s = l .before .before .before .before .before .before in
-      sized (room-level _ _ (s .args .vs .now) _ _ _ _ _ _ (l .loop .inv .0) (l .loop .inv .1) (s .pre .0) (s .pre .1 .1 .1) i h)
-
-sub-nth-smallest : tie.Need-sub-nth-smallest Inv-loop μ-loop
-sub-nth-smallest c = search needs
-
-nth-smallest-requires : tie.Need-nth-smallest-requires Inv-loop μ-loop
-nth-smallest-requires c κs = search needs
-
-count-below-requires : tie.Need-count-below-requires Inv-loop μ-loop
-count-below-requires c κs = search needs
-
-sub-left : tie.Need-sub-left Inv-loop μ-loop
-sub-left c =
-    let s = c .before .before .before .before .before in
-    let k = cut-at (s .args .m) (s .args .ds .now) (c .before .nth-smallest .result) (s .pre .1 .0) (s .pre .1 .1 .0) (c .before .nth-smallest .ensures) in
-    omega (arith, k .few)
+roomLevel : (t : tie.Then3 Inv-loop μ-loop) → Room (t .before .before .before .before .before .before)
+roomLevel t =
+    let l = t .before .before .before .before .before .before in
+    let s = l .before .before .before .before in
+    sized l (room-level _ _ (s .args .vs .now) _ _ _ _ _ _ (s .pre .1 .0) (l .loop .inv) (same (s .args .logs .now) (s .args .vs .now) (s .args .level) (s .pre .0)) (s .pre .1 .1 .1) (in-range (t .before .before .before)) (t .if3 .taken))
 
 loop-holds : tie.Need-loop-holds Inv-loop μ-loop
-loop-holds c =
-    let s = c .before .before .before .before .before in (
-      cut-at (s .args .m) (s .args .ds .now) (c .before .nth-smallest .result) (s .pre .1 .0) (s .pre .1 .1 .0) (c .before .nth-smallest .ensures),
-      collect-start (s .args .m) (s .args .ds .now) (s .args .vs .now) (s .args .out .now) _ _ (ap (λ b. s .args .m - b) (c .count-below .ensures)),
-    )
+loop-holds c = let s = c .before .before .before in collect-start (s .args .m) (distances (s .args .level) (s .args .logs .now)) (s .args .vs .now) (s .args .out .now) _ _ (s .pre .1 .1 .0)
 
-mul-d : tie.Need-mul-d Inv-loop μ-loop
-mul-d c = search needs
+mul-abs-bits : tie.Need-mul-abs-bits Inv-loop μ-loop
+mul-abs-bits c = search needs
 
-shared-slice-read-d : tie.Need-shared-slice-read-d Inv-loop μ-loop
-shared-slice-read-d c = search needs
+shared-slice-read-abs-bits : tie.Need-shared-slice-read-abs-bits Inv-loop μ-loop
+shared-slice-read-abs-bits c = search needs
+
+abs-bits-requires : tie.Need-abs-bits-requires Inv-loop μ-loop
+abs-bits-requires c κs = search needs
 
 mul-out : tie.Need-mul-out Inv-loop μ-loop
 mul-out c = search needs
@@ -75,15 +73,15 @@ shared-slice-read-out c = search needs
 
 mul-out-2 : tie.Need-mul-out-2 Inv-loop μ-loop
 unfolding Room
-mul-out-2 c = let r = roomBelow (c .before .before .before .before) (omega arith) (c .before .if1 .taken) in omega (arith, r .1)
+mul-out-2 c = let r = roomBelow (c .before) in omega (arith, r .1)
 
 slice-write-out : tie.Need-slice-write-out Inv-loop μ-loop
 unfolding Room
-slice-write-out c = roomBelow (c .before .before .before .before) (omega arith) (c .before .if1 .taken) .0
+slice-write-out c = roomBelow (c .before) .0
 
 add-n : tie.Need-add-n Inv-loop μ-loop
 unfolding Room
-add-n c = let r = roomBelow (c .before .before .before .before) (omega arith) (c .before .if1 .taken) in omega (arith, r .2)
+add-n c = let r = roomBelow (c .before) in omega (arith, r .2)
 
 mul-out-3 : tie.Need-mul-out-3 Inv-loop μ-loop
 mul-out-3 c = search needs
@@ -93,18 +91,18 @@ shared-slice-read-out-2 c = search needs
 
 mul-out-4 : tie.Need-mul-out-4 Inv-loop μ-loop
 unfolding Room
-mul-out-4 c = let r = roomLevel (c .before .before .before .before .before .before) (omega arith) (c .before .if3 .taken) in omega (arith, r .1)
+mul-out-4 c = let r = roomLevel (c .before) in omega (arith, r .1)
 
 slice-write-out-2 : tie.Need-slice-write-out-2 Inv-loop μ-loop
 unfolding Room
-slice-write-out-2 c = roomLevel (c .before .before .before .before .before .before) (omega arith) (c .before .if3 .taken) .0
+slice-write-out-2 c = roomLevel (c .before) .0
 
 add-n-2 : tie.Need-add-n-2 Inv-loop μ-loop
 unfolding Room
-add-n-2 c = let r = roomLevel (c .before .before .before .before .before .before) (omega arith) (c .before .if3 .taken) in omega (arith, r .2)
+add-n-2 c = let r = roomLevel (c .before) in omega (arith, r .2)
 
-sub-left-2 : tie.Need-sub-left-2 Inv-loop μ-loop
-sub-left-2 c = search needs
+sub-left : tie.Need-sub-left Inv-loop μ-loop
+sub-left c = search needs
 
 add-i : tie.Need-add-i Inv-loop μ-loop
 add-i c = search needs
@@ -114,27 +112,30 @@ loop-less c = search needs
 
 loop-again : tie.Need-loop-again Inv-loop μ-loop
 loop-again c =
-    let l = c .before .before .before in
-    let s = l .before .before .before .before .before .before in
-    let k = l .loop .inv .0 in
-    let i : l .loop .i < length (s .args .ds .now) = omega arith in
+    let l = c .before .before .before .before in
+    let s = l .before .before .before .before in
+    let k = s .pre .1 .0 in
+    let q = same (s .args .logs .now) (s .args .vs .now) (s .args .level) (s .pre .0) in
+    let room = s .pre .1 .1 .1 in
+    let e = distance-here (c .before) in
+    let i = in-range (c .before) in
     ⊎-elim
-    (λ w. rw (w .2, w .3, w .4) (k, collect-below _ _ _ _ _ _ _ _ _ k (l .loop .inv .1) (s .pre .0) (s .pre .1 .1 .1) i (w .0 .taken)))
+    (λ w. rw (w .2, w .3, w .4) (collect-below _ _ _ _ _ _ _ _ _ k (l .loop .inv) q room i (omega (arith, e, w .0 .taken))))
     (⊎-elim
-    (λ w. rw (w .4, w .5, w .6) (k, collect-level _ _ _ _ _ _ _ _ _ k (l .loop .inv .1) (s .pre .0) (s .pre .1 .1 .1) i (w .1 .taken) (w .2 .taken)))
+    (λ w. rw (w .4, w .5, w .6) (collect-level _ _ _ _ _ _ _ _ _ k (l .loop .inv) q room i (sym e ∙ w .1 .taken) (w .2 .taken)))
     (⊎-elim
-    (λ w. rw (w .3, w .4, w .5) (k, pass-level _ _ _ _ _ _ _ _ _ k (l .loop .inv .1) (s .pre .0) (s .pre .1 .1 .1) i (w .1 .taken) (w .2 .left)))
-    (λ w. rw (w .2, w .3, w .4) (k, pass-far _ _ _ _ _ _ _ _ _ k (l .loop .inv .1) (s .pre .0) (s .pre .1 .1 .1) i (omega (arith, w .0 .left, w .1 .left))))))
+    (λ w. rw (w .3, w .4, w .5) (pass-level _ _ _ _ _ _ _ _ _ k (l .loop .inv) q room i (sym e ∙ w .1 .taken) (w .2 .left)))
+    (λ w. rw (w .2, w .3, w .4) (pass-far _ _ _ _ _ _ _ _ _ k (l .loop .inv) q room i (omega (arith, e, w .0 .left, w .1 .left))))))
     (c .if1 .came)
 
 same-length : tie.Need-same-length Inv-loop μ-loop
-same-length c = search needs
+same-length c = c .before .loop .inv .size
 
 returns : tie.Need-returns Inv-loop μ-loop
 returns c =
     let l = c .before in
-    let s = l .before .before .before .before .before .before in
-    collect-end _ _ (s .args .vs .now) _ _ _ _ _ _ (l .loop .inv .0) (l .loop .inv .1) (s .pre .0) (omega arith)
+    let s = l .before .before .before .before in
+    collect-end _ _ (s .args .vs .now) _ _ _ _ _ _ (s .pre .1 .0) (l .loop .inv) (same (s .args .logs .now) (s .args .vs .now) (s .args .level) (s .pre .0)) (omega (arith, distances-length (s .args .logs .now) (s .args .level)))
 
 pub collect-nearest-spec : {M : Type 1} → statement M
 collect-nearest-spec =
@@ -142,13 +143,10 @@ collect-nearest-spec =
     (tie.spec
     Inv-loop
     μ-loop
-    sub-nth-smallest
-    nth-smallest-requires
-    count-below-requires
-    sub-left
     loop-holds
-    mul-d
-    shared-slice-read-d
+    mul-abs-bits
+    shared-slice-read-abs-bits
+    abs-bits-requires
     mul-out
     shared-slice-read-out
     mul-out-2
@@ -159,7 +157,7 @@ collect-nearest-spec =
     mul-out-4
     slice-write-out-2
     add-n-2
-    sub-left-2
+    sub-left
     add-i
     loop-less
     loop-again
