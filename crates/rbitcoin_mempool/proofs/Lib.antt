@@ -27,3 +27,4 @@ pub mod Cuts
 pub mod Neighbors
 pub mod Scans
 pub mod CasesWindows
+pub mod Ranks

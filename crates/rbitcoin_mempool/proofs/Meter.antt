@@ -1,4 +1,4 @@
--- The fee flow meter: what a decay does to one number, the least time of a sample, and the bucket of an admission. Assumes nothing.
+-- The fee flow meter: its rates at the opening, what a decay does to one number, the least time of a sample, and the bucket of an admission. Assumes nothing.
 use mathlib.Core.Path.{_≡_, refl, sym, ap, _∙_}
 use mathlib.Core.Bool.{Bool, true, false, cond, _&&_, _||_, true≢false}
 use Prim.Native.Nat.{ℕ, zero, suc, _+_, _-_, _*_, _≤_, _<_}
@@ -8,7 +8,7 @@ use borrow.Author.Tests.{le-ltb, ltb-true, eqb-true}
 use borrow.Author.Needs.{length-unmapped}
 use denote.Laws.{Is}
 use denote.Struct.Laws as LL
-use lib.ListN.{length}
+use lib.ListN.{length, getD, getD-replicate}
 use lib.Ieee.{Float, nan, inf, fin, binary64, up, down, mul, lt, eq, le, isNan}
 use Rattle.num.specs.Float.{ofU64, maxOf}
 use Rattle.slices.specs.Search.{seek}
@@ -16,7 +16,11 @@ use Rattle.rbitcoin_mempool.specs.Edges.{edgeAt, firstAbove, bucketIndex
 use Rattle.rbitcoin_mempool.specs.declared.fee_flow.FeeFlowMeter.{FeeFlowMeter}
 use Rattle.rbitcoin_mempool.proofs.fee_flow.FeeFlowMeter as T
 use Rattle.rbitcoin_mempool.proofs.fee_flow.FeeFlowMeter.Laws as T′
-use Rattle.rbitcoin_mempool.specs.Meter.{leastSecs, gap, kept, decayed}
+use Rattle.rbitcoin_mempool.specs.Meter.{leastSecs, gap, kept, decayed, opened}
+
+-- every rate of a new meter is 0
+pub opened-zero : (now k : ℕ) → k < 402 → getD (opened now .«admit_wu_s») k nan ≡ ofU64 0
+opened-zero now k h = getD-replicate {A = Float} 402 k (ofU64 0) nan h
 
 -- the array of a meter that was passed has 402 rates
 pub rates-long : (m : FeeFlowMeter) → Is T.the-row m (LL.vals T.the-type T′.the-laws m) → length (m .«admit_wu_s») ≡ 402

@@ -1,5 +1,6 @@
 // Flow-aware fee projection, after fee_est.rs.
 mod capacity;
+mod depths;
 mod edges;
 mod percentile;
 
@@ -19,6 +20,8 @@ pub use capacity::inclusion_confidence;
 pub use capacity::inflow_horizon_secs;
 pub use capacity::inflow_suffix_wu;
 pub use capacity::min_rate_for_capacity;
+pub use depths::BLEND_N0;
+pub use depths::NEAR_BLEND_FLOOR;
 pub use edges::FEE_BUCKET_EDGES_SAT_PER_KVB;
 pub use edges::FLOW_BUCKET_DECADES;
 pub use edges::FLOW_BUCKET_EDGE_COUNT;
