@@ -1,6 +1,6 @@
 // The fee flow meter.
 ghost use mathlib.Core.Path.{_≡_};
-ghost use Rattle.rbitcoin_mempool.specs.Meter.{flowFullWu, opened, decayTo, fullness, admitRatesWuS, noteAdmit};
+ghost use Rattle.rbitcoin_mempool.specs.Meter.{halfLifeSecs, flowFullWu, opened, decayTo, fullness, admitRatesWuS, noteAdmit};
 use rbitcoin_mempool::fee_flow;
 use rbitcoin_mempool::fee_flow::FeeFlowMeter;
 
@@ -8,6 +8,13 @@ use rbitcoin_mempool::fee_flow::FeeFlowMeter;
 #[repr(C)]
 pub struct AdmitRates {
     pub wu_s: [u64; 402],
+}
+
+#[no_mangle]
+pub extern "C" fn juleyomu_admit_half_life_secs() -> f64
+    ensures { λ r. ⌜ r ≡ halfLifeSecs ⌝ }
+{
+    fee_flow::admit_half_life_secs()
 }
 
 #[no_mangle]

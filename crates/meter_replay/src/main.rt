@@ -1,7 +1,8 @@
 // Replays the oracle's questions about the fee flow meter. A line of standard input is the name
 // `meter`, the clock at which a meter is opened, and a list of calls, each a kind (0 and 1 a read, 2
 // an admission), a weight, a rate and a clock. A line of standard output has the meter after the
-// calls: the fullness, the total, the decay clock and a digest of the rates.
+// calls: the fullness, the total, the decay clock, a digest of the rates and one of the rates as
+// whole numbers.
 ghost use Prim.Native.Nat.{_≤_};
 use libc::STDIN_FILENO;
 use libc::STDOUT_FILENO;
@@ -39,6 +40,17 @@ fn digest(m: FeeFlowMeter) -> u64 {
     d
 }
 
+// The same of the rates as whole numbers.
+fn whole_digest(rates: [u64; 402]) -> u64 {
+    let mut d: u64 = 0;
+    let mut i: usize = 0;
+    while i < 402 {
+        d = (d << 1 | d >> 63) ^ rates[i];
+        i += 1;
+    }
+    d
+}
+
 fn put_meter(m: FeeFlowMeter) {
     put(bits(m.full()));
     put_space();
@@ -47,6 +59,8 @@ fn put_meter(m: FeeFlowMeter) {
     put(m.last);
     put_space();
     put(digest(m));
+    put_space();
+    put(whole_digest(m.rates()));
     put_newline();
 }
 

@@ -7,7 +7,7 @@ ghost use mathlib.Core.List.{map};
 ghost use lib.ListN.{length};
 ghost use lib.Ieee.{le};
 ghost use Rattle.num.specs.Float.{ofU64, maxOf};
-ghost use Rattle.rbitcoin_mempool.specs.Meter.{flowFullWu, leastSecs, gap, kept, decayed, opened, decayTo, full, fullness, rates, admitRatesWuS, noteAdmit};
+ghost use Rattle.rbitcoin_mempool.specs.Meter.{halfLifeSecs, flowFullWu, leastSecs, gap, kept, decayed, opened, decayTo, full, fullness, rates, admitRatesWuS, noteAdmit};
 use crate::fee_est::BLOCK_WEIGHT_WU;
 use crate::fee_est::SECONDS_PER_BLOCK;
 use crate::fee_est::bucket_index;
@@ -27,6 +27,13 @@ pub struct FeeFlowMeter {
     pub last: u64,
     // Previous admission. The sample is weight over the gap since this one.
     last_admit: u64,
+}
+
+// The half-life.
+pub fn admit_half_life_secs() -> f64
+    ensures { λ r. ⌜ r ≡ halfLifeSecs ⌝ }
+{
+    FeeFlowMeter::ADMIT_HALF_LIFE_SECS
 }
 
 // The full weight, as the Rust names it.

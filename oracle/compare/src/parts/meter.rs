@@ -41,6 +41,8 @@ mod rattle {
     use super::{AdmitRates, RattleMeter};
 
     unsafe extern "C" {
+        #[link_name = "juleyomu_admit_half_life_secs"]
+        pub safe fn admit_half_life_secs() -> f64;
         #[link_name = "juleyomu_flow_full_wu"]
         pub safe fn flow_full_wu() -> f64;
         #[link_name = "juleyomu_fee_flow_meter"]
@@ -326,6 +328,12 @@ const FLOW_RATES: Function<Flow, u64> = Function::new(
     |flow| flow.rates::<Upstream>(),
     |_| "the sum of the last read",
 );
+const ADMIT_HALF_LIFE_SECS: Function<(), f64> = Function::new(
+    "admit_half_life_secs",
+    |_| rattle::admit_half_life_secs(),
+    |_| patched_mempool::fee_flow::ADMIT_HALF_LIFE_SECS,
+)
+.same_upstream(|_| upstream_mempool::fee_flow::ADMIT_HALF_LIFE_SECS);
 const FLOW_FULL_WU: Function<(), f64> = Function::new(
     "flow_full_wu",
     |_| rattle::flow_full_wu(),
@@ -663,11 +671,14 @@ fn draw_flow(rng: &mut Rng) -> Flow {
 /// For the program that replays them: calls on a new meter, each a kind, a weight, a rate and a clock.
 type Question = (u64, Vec<(u64, (u64, u64, u64))>);
 
-/// The fullness, the total, the decay clock and a digest of the rates after the calls.
-const METER: Function<Question, (f64, f64, (u64, u64))> =
+/// After the calls: the fullness, the total, the decay clock, a digest of the rates and one of the
+/// rates as whole numbers.
+type Answer = (f64, f64, (u64, u64, u64));
+
+const METER: Function<Question, Answer> =
     Function::new("meter", replayed::<RattleMeter>, replayed::<Patched>);
 
-fn replayed<M: Meter>((now, calls): &Question) -> (f64, f64, (u64, u64)) {
+fn replayed<M: Meter>((now, calls): &Question) -> Answer {
     let mut meter = M::open(&Opening {
         last_admit: *now,
         held: None,
@@ -680,10 +691,15 @@ fn replayed<M: Meter>((now, calls): &Question) -> (f64, f64, (u64, u64)) {
         }
     }
     let state = meter.state();
-    let mix = |digest: u64, rate: &f64| digest.rotate_left(1) ^ rate.to_bits();
-    let digest = state.rates.iter().fold(0, mix);
-    // No later clock: the read changes nothing.
-    (meter.fullness(0), state.total, (state.clock(), digest))
+    let mix = |digest: u64, bits: u64| digest.rotate_left(1) ^ bits;
+    let digest = state.rates.iter().map(|rate| rate.to_bits()).fold(0, mix);
+    // No later clock: the reads change nothing.
+    let whole = meter.admit_rates_wu_s(0).into_iter().fold(0, mix);
+    (
+        meter.fullness(0),
+        state.total,
+        (state.clock(), digest, whole),
+    )
 }
 
 fn question((opening, calls): Case) -> Question {
@@ -720,6 +736,7 @@ impl Part for FeeFlow {
 
     fn jobs(&self, plan: &Plan) -> Vec<Job> {
         vec![
+            Job::over(ADMIT_HALF_LIFE_SECS, [()]),
             Job::over(FLOW_FULL_WU, [()]),
             Job::over(ONE_CALL, boundary_cases()),
             Job::over(ONE_CALL, special_cases()),
