@@ -46,6 +46,21 @@ impl Bench {
         );
     }
 
+    /// The same where both sides change their input: each is given copies.
+    pub fn row_of_copies<I: Clone, A, B>(
+        &mut self,
+        name: &str,
+        inputs: &[I],
+        mut rattle: impl FnMut(I) -> A,
+        mut rust: impl FnMut(I) -> B,
+    ) {
+        self.measure(
+            name,
+            |repeats| time_by_value(repeats, inputs, &mut rattle),
+            |repeats| time_by_value(repeats, inputs, &mut rust),
+        );
+    }
+
     /// Each side answers how long a number of passes over the inputs takes.
     fn measure(
         &mut self,

@@ -3,6 +3,7 @@
 mod capacity;
 mod meter;
 mod num;
+mod windows;
 
 use crate::bench::Bench;
 use crate::check::{Job, Plan};
@@ -24,4 +25,9 @@ pub trait Part {
     fn bench(&self, bench: &mut Bench);
 }
 
-pub const PARTS: &[&dyn Part] = &[&num::Num, &capacity::Capacity, &meter::FeeFlow];
+pub const PARTS: &[&dyn Part] = &[
+    &num::Num,
+    &capacity::Capacity,
+    &meter::FeeFlow,
+    &windows::PairWindows,
+];

@@ -4,6 +4,7 @@
 use super::Part;
 use crate::bench::Bench;
 use crate::check::{Function, Job, Plan};
+use crate::lent::{Lent, RateFields, lend};
 use crate::replay::Replay;
 use crate::rng::Rng;
 use crate::values::{around_word, boundary_words};
@@ -20,39 +21,6 @@ type Edges = [u64; FLOW_BUCKET_EDGE_COUNT];
 /// A sum for each bucket, and 0 past the last.
 const SUFFIX_COUNT: usize = FLOW_BUCKET_EDGE_COUNT + 2;
 type Suffix = [u64; SUFFIX_COUNT];
-
-/// A rate or none, or a refusal: its number or 0, then 1 where a rate is there, then the rate or 0.
-#[repr(C)]
-#[derive(Clone, Copy, PartialEq, Debug)]
-pub struct RateFields {
-    refusal: u8,
-    mark: u8,
-    rate: u64,
-}
-
-impl RateFields {
-    const UNEQUAL_LENGTHS: RateFields = RateFields {
-        refusal: 1,
-        mark: 0,
-        rate: 0,
-    };
-}
-
-impl From<Option<u64>> for RateFields {
-    fn from(rate: Option<u64>) -> RateFields {
-        RateFields {
-            refusal: 0,
-            mark: u8::from(rate.is_some()),
-            rate: rate.unwrap_or(0),
-        }
-    }
-}
-
-impl Words for RateFields {
-    fn write(&self, out: &mut Vec<Word>) {
-        (self.refusal, self.mark, self.rate).write(out);
-    }
-}
 
 /// The functions of the Rattle crate `exports`. They only read what is behind a `&[u64]`.
 mod rattle {
@@ -231,39 +199,6 @@ const TABLES: [Function<(), Vec<u64>>; 3] = [
     FINE_CANDIDATE_RATES,
 ];
 
-/// An answer, and whether the lent lists are as they were. A list that was written to adds a word,
-/// which no answer of the Rust has.
-struct Lent<A> {
-    answer: A,
-    kept: bool,
-}
-
-impl<A: Words> Words for Lent<A> {
-    fn write(&self, out: &mut Vec<Word>) {
-        self.answer.write(out);
-        if !self.kept {
-            out.push(Word::Bool(false));
-        }
-    }
-}
-
-impl<A> From<A> for Lent<A> {
-    fn from(answer: A) -> Lent<A> {
-        Lent { answer, kept: true }
-    }
-}
-
-/// Lends copies of the lists.
-fn lend<A, const N: usize>(
-    lists: [&Vec<u64>; N],
-    function: impl FnOnce(&[Vec<u64>; N]) -> A,
-) -> Lent<A> {
-    let copies = black_box(lists.map(Vec::clone));
-    let answer = function(black_box(&copies));
-    let kept = black_box(&copies).iter().eq(lists);
-    Lent { answer, kept }
-}
-
 /// The horizon and the inflow of each bucket.
 type Flow = (u64, Vec<u64>);
 
@@ -402,7 +337,7 @@ const MIN_RATE_OF_PAIRS: Function<Search, Lent<RateFields>> =
 /// Refused by the port; the Rust has no such case.
 const MIN_RATE_OF_UNEQUAL_LENGTHS: Function<Search, Lent<RateFields>> =
     Function::new(MIN_RATE_FOR_CAPACITY.name, Search::rattle, |_| {
-        RateFields::UNEQUAL_LENGTHS.into()
+        RateFields::refused(1).into()
     })
     .within(|search| !search.paired());
 
@@ -931,17 +866,5 @@ mod tests {
             [none, least, later, back].iter().all(|count| *count > 100),
             "{none} none, {least} least, {later} later, {back} not monotone"
         );
-    }
-
-    #[test]
-    fn a_list_that_was_written_to_is_a_difference() {
-        let list = vec![1, 2];
-        let words = lend([&list], |_| 7_u64).words();
-        assert!(crate::words::same(&words, &7_u64.words()));
-        let changed = Lent {
-            answer: 7_u64,
-            kept: false,
-        };
-        assert!(!crate::words::same(&changed.words(), &words));
     }
 }
