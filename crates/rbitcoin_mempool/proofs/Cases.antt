@@ -8,14 +8,17 @@ use Rattle.rbitcoin_mempool.specs.Cases.{Cases}
 use Rattle.rbitcoin_mempool.specs.Edges.{series, edgeAt, firstAbove, bucketIndex, firstBucketAbove}
 use Rattle.rbitcoin_mempool.specs.Capacity.{effectiveCapacityWu, inflowWu, inflowSuffixWu, stressedWu, fitsWith, fits, leastFitting, minRateForCapacity}
 use Rattle.rbitcoin_mempool.specs.Percentile.{percentileSat}
+use Rattle.rbitcoin_mempool.specs.Median.{analogLookback, medianOf, lowerMedian}
 
 pub cases : Cases
-unfolding seek series edgeAt firstAbove bucketIndex firstBucketAbove effectiveCapacityWu tabulate insert sorted inflowWu inflowSuffixWu stressedWu fitsWith fits leastFitting minRateForCapacity percentileSat mul ofInt toUnsigned
+unfolding seek series edgeAt firstAbove bucketIndex firstBucketAbove effectiveCapacityWu tabulate insert sorted inflowWu inflowSuffixWu stressedWu fitsWith fits leastFitting minRateForCapacity percentileSat analogLookback medianOf lowerMedian mul ofInt toUnsigned
 cases =
     record {
       case-A = (refl, refl, refl, refl, refl, refl);
       case-B = (refl, refl, refl, refl);
       case-C = (refl, refl, refl);
       case-G = (refl, refl);
+      case-H = refl;
+      case-I = (refl, refl, refl, refl);
       case-K = (refl, refl);
     }

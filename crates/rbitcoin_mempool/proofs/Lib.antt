@@ -27,5 +27,5 @@ pub mod Padding
 pub mod Cuts
 pub mod Neighbors
 pub mod Scans
-pub mod CasesWindows
+pub mod CaseL
 pub mod Ranks

@@ -5,6 +5,7 @@
 
 mod inputs;
 mod rattle;
+mod replayed;
 mod sides;
 mod timing;
 
@@ -399,7 +400,9 @@ impl Part for PairWindows {
         jobs
     }
 
-    fn replay(&self, _replay: &mut Replay) {}
+    fn replay(&self, replay: &mut Replay) {
+        replayed::ask(replay);
+    }
 
     fn bench(&self, bench: &mut Bench) {
         timing::rows(bench);

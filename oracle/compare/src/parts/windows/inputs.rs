@@ -211,7 +211,7 @@ pub fn draw_quote(rng: &mut Rng) -> Quote {
     }
 }
 
-fn draw_target(rng: &mut Rng) -> u32 {
+pub fn draw_target(rng: &mut Rng) -> u32 {
     match rng.below(8) {
         0 => 0,
         1 => rng.pick(&[16, 17, 20, 24, 40, u32::MAX - 1, u32::MAX]),
@@ -219,7 +219,7 @@ fn draw_target(rng: &mut Rng) -> u32 {
     }
 }
 
-fn draw_hurdle(rng: &mut Rng) -> u64 {
+pub fn draw_hurdle(rng: &mut Rng) -> u64 {
     match rng.below(4) {
         0 => rng.below(3),
         1 => rng.of_any_length(),
@@ -346,7 +346,8 @@ impl Story {
             if rng.below(1_000) == 0 {
                 run = rng.below(4);
             }
-            let target = self.targets[rng.below(self.targets.len() as u64) as usize];
+            let place = rng.below(self.targets.len().max(1) as u64);
+            let target = self.targets.get(place as usize).copied().unwrap_or(1);
             let hurdle = 500 + rng.below(20_000);
             let call = match (rng.below(600), run) {
                 (0, _) => Call::Rate(target, draw_confidence(&mut rng)),

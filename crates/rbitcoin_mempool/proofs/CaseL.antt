@@ -1,22 +1,11 @@
--- Starred cases of document 01 that the pair windows answer, as facts about the definitions; and case L. Assumes nothing.
+-- Case L of document 01, as facts about the definitions. Assumes nothing.
 use mathlib.Core.Path.{_≡_, refl}
 use mathlib.Core.List.{[], _∷_}
 use Rattle.slices.specs.Lists.{tabulate}
 use Rattle.slices.specs.Least.{leastOf}
 use Rattle.slices.specs.Sorted.{insert, sorted}
-use Rattle.rbitcoin_mempool.specs.Answer.{rate}
-use Rattle.rbitcoin_mempool.specs.Median.{analogLookback, lnRate, lookbackPart, medianOf, lowerMedian}
+use Rattle.rbitcoin_mempool.specs.Median.{analogLookback, lnRate, lookbackPart, medianOf}
 use Rattle.rbitcoin_mempool.specs.Pairs.{aheadOf, beforeAt, aheadAt, windowsIn, pairsOf}
-
--- H: the lower median of 5 1 4 2 is 2
-pub case-h : lowerMedian (5 ∷ 1 ∷ 4 ∷ 2 ∷ []) ≡ rate 2
-unfolding lowerMedian medianOf sorted insert
-case-h = refl
-
--- I: lookbacks
-pub case-i : (analogLookback 0 ≡ 3) × (analogLookback 12 ≡ 3) × (analogLookback 16 ≡ 4) × (analogLookback 576 ≡ 144)
-unfolding analogLookback
-case-i = (refl, refl, refl, refl)
 
 -- L: target 1, hurdles 5 9 7: no pair; then 8: the pair of ln 7 and 8
 pub case-l-none : pairsOf (5 ∷ 9 ∷ 7 ∷ []) 1 ≡ []
