@@ -1,21 +1,9 @@
 // Replays the oracle's questions about the crate `num`. A line of standard input is a function's name
 // and its arguments, and a line of standard output its results, a NaN as `nan`.
-ghost use mathlib.Core.Path.{_≡_};
-ghost use lib.Ieee.{binary64, ofBits};
 use libc::STDIN_FILENO;
 use libc::STDOUT_FILENO;
 use num::wide::Wide;
 use num::wide::WideDivision;
-
-// The float of a bit pattern, a NaN's too.
-fn float_of(bits: u64) -> f64
-    ensures { λ r. ⌜ r ≡ ofBits binary64 bits ⌝ }
-{
-    if bits % 0x8000_0000_0000_0000 > 0x7FF0_0000_0000_0000 {
-        return 0.0 / 0.0;
-    }
-    f64::from_bits(bits)
-}
 
 fn put(n: u64) {
     io::print_hex(STDOUT_FILENO, n, 16);
@@ -149,10 +137,15 @@ fn answer(line: &[u8]) {
     if of_word(name, a) {
         return;
     }
-    if of_float(name, float_of(a)) {
+    if of_float(name, replay_lines::float_of(a)) {
         return;
     }
-    if of_floats(name, float_of(a), float_of(b), float_of(c)) {
+    if of_floats(
+        name,
+        replay_lines::float_of(a),
+        replay_lines::float_of(b),
+        replay_lines::float_of(c),
+    ) {
         return;
     }
     io::write_all(STDOUT_FILENO, b"unknown\n");

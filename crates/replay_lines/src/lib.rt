@@ -3,6 +3,7 @@
 ghost use mathlib.Core.Path.{_≡_};
 ghost use Prim.Native.Nat.{ℕ, _+_, _≤_, _<_};
 ghost use lib.ListN.{length, getD};
+ghost use lib.Ieee.{binary64, ofBits};
 ghost use Rattle.replay_lines.specs.Hex.{hexDigit, hexOf};
 
 // The first place from `from` on at which the byte b stands, or the length where there is none.
@@ -69,4 +70,14 @@ pub fn word(s: &[u8], at: usize) -> u64
         i += 1;
     }
     x
+}
+
+// The float of a bit pattern, a NaN's too.
+pub fn float_of(bits: u64) -> f64
+    ensures { λ r. ⌜ r ≡ ofBits binary64 bits ⌝ }
+{
+    if bits % 0x8000_0000_0000_0000 > 0x7FF0_0000_0000_0000 {
+        return 0.0 / 0.0;
+    }
+    f64::from_bits(bits)
 }

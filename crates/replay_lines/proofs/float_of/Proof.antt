@@ -1,12 +1,12 @@
--- `num_replay::float_of` meets its contract: with the sign taken off, the patterns above infinity's are the NaNs'. Assumes nothing.
+-- `replay_lines::float_of` meets its contract: with the sign taken off, the patterns above infinity's are the NaNs'. Assumes nothing.
 use mathlib.Core.Path.{_≡_, refl, sym, _∙_}
 use mathlib.Core.Bool.{true, false, true≢false}
 use borrow.Author.Needs.{needs}
 use borrow.Author.Tests.{lt-ltb, le-ltb}
 use lib.Ieee.{Float, nan, inf, fin, binary64, div, isNan, ofBits}
 use lib.Ieee.Bits.{nanBits-is, nanBits-above}
-use Rattle.num_replay.proofs.float_of.Statement.{statement}
-use Rattle.num_replay.proofs.float_of.Tie as tie
+use Rattle.replay_lines.proofs.float_of.Statement.{statement}
+use Rattle.replay_lines.proofs.float_of.Tie as tie
 
 zero-by-zero : div binary64 (ofBits binary64 0) (ofBits binary64 0) ≡ nan
 unfolding div ofBits
