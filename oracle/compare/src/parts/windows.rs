@@ -15,7 +15,7 @@ use crate::check::{Function, Job, Plan};
 use crate::lent::{Lent, RateFields, lend};
 use crate::replay::Replay;
 use crate::rng::Rng;
-use crate::values::boundary_words;
+use crate::values::{boundary_words, pairs};
 use inputs::{CONFIDENCES, Quote, Scan, Story};
 use patched_mempool::fee_analog as patched;
 use patched_mempool::fee_analog::{ANALOG_BAND, ANALOG_MIN_NEIGHBORS};
@@ -130,11 +130,7 @@ fn rate_of<S: Side>(quote: &Quote) -> Lent<RateFields> {
     let (opening, steps) = quote.case();
     let (mut windows, _) = S::open(&opening);
     let replies = steps.iter().map(|step| windows.step(step));
-    let last = replies.last().expect("a rate is asked for");
-    Lent {
-        answer: last.answer,
-        kept: last.kept,
-    }
+    replies.last().expect("a rate is asked for")
 }
 
 /// What the Rust's rate of a quote rests on: how many pairs are in band, and whether another pair is as
@@ -190,11 +186,7 @@ const SCAN: Function<Scan, Lent<RateFields>> = Function::new(
             port.memory.befores[port.state.start + 3 + place] = before;
             port.memory.aheads[port.state.start + 3 + place] = ahead;
         }
-        let reply = port.step(&Call::Rate(1, scan.confidence).into());
-        Lent {
-            answer: reply.answer,
-            kept: reply.kept,
-        }
+        port.step(&Call::Rate(1, scan.confidence).into())
     },
     |scan| {
         let mut history = Patched::new(&[1]);
@@ -225,11 +217,7 @@ const FOREIGN_STATE: Function<Foreign, Lent<RateFields>> = Function::new(
             },
             memory: rattle::Memory::new(2, 16),
         };
-        let reply = port.step(&call.clone().into());
-        Lent {
-            answer: reply.answer,
-            kept: reply.kept,
-        }
+        port.step(&call.clone().into())
     },
     |foreign| RateFields::refused(foreign_refusal(foreign)).into(),
 )
@@ -277,50 +265,56 @@ fn case_l() -> Case {
     (opening, calls.into())
 }
 
-/// Openings at every limit, with each list too short in turn, and some calls on what they leave.
+/// Targets and capacities at every limit.
+const SIZES: [(u32, u64); 13] = [
+    (0, 0),
+    (0, 5),
+    (1, 0),
+    (1, 1),
+    (2, 2),
+    (3, 9),
+    (16, 8),
+    (17, 8),
+    (17, 0),
+    (17, 65_537),
+    (1, 65_536),
+    (1, 65_537),
+    (0, u64::MAX),
+];
+
+/// Calls about the limits of windows that hold a few hurdles at most.
+fn limit_calls(capacity: u64) -> [Call; 11] {
+    let few = capacity.min(8) as usize;
+    [
+        Call::PopBack,
+        Call::PopFront,
+        Call::PushBack(7),
+        Call::PushFront(9),
+        Call::PushBack(8),
+        Call::Rate(1, 0.5),
+        Call::Rate(99, f64::NAN),
+        Call::Pairs(1),
+        Call::Rebuild(vec![3; few]),
+        Call::Rebuild(vec![4; few + 1]),
+        Call::PushFront(u64::MAX),
+    ]
+}
+
+/// Case L, and openings at every limit with calls on what they leave: with each list too short in turn.
 fn opening_cases() -> Vec<Case> {
     let mut cases = vec![case_l()];
-    for (targets, capacity) in [
-        (0, 0),
-        (0, 5),
-        (1, 0),
-        (1, 1),
-        (2, 2),
-        (3, 9),
-        (16, 8),
-        (17, 8),
-        (17, 0),
-        (17, 65_537),
-        (1, 65_536),
-        (1, 65_537),
-        (0, u64::MAX),
-    ] {
-        for (short, call_short) in (0..=4).flat_map(|short| (0..=4).map(move |call| (short, call)))
-        {
-            let opening = Opening {
-                targets: (0..targets).collect(),
-                capacity,
-                short,
-            };
-            let step = |call| Step {
-                call,
-                short: call_short,
-            };
-            let calls = [
-                Call::PopBack,
-                Call::PopFront,
-                Call::PushBack(7),
-                Call::PushFront(9),
-                Call::PushBack(8),
-                Call::Rate(1, 0.5),
-                Call::Rate(99, f64::NAN),
-                Call::Pairs(1),
-                Call::Rebuild(vec![3; capacity.min(8) as usize]),
-                Call::Rebuild(vec![4; capacity.min(8) as usize + 1]),
-                Call::PushFront(u64::MAX),
-            ];
-            cases.push((opening, calls.map(step).into()));
-        }
+    let shorts: Vec<u8> = (0..=rattle::SCRATCH).collect();
+    for ((count, capacity), (short, call_short)) in pairs(&SIZES, &pairs(&shorts, &shorts)) {
+        let opening = Opening {
+            targets: (0..count).collect(),
+            capacity,
+            short,
+        };
+        let step = |call| Step {
+            call,
+            short: call_short,
+        };
+        cases.push((opening, limit_calls(capacity).map(step).into()));
     }
     cases
 }

@@ -1,7 +1,7 @@
 //! Calls on pair windows, and the windows of either side.
 
 use super::rattle::{self, Memory};
-use crate::lent::RateFields;
+use crate::lent::{Lent, RateFields};
 use crate::words::{Input, Word, Words};
 use std::hint::black_box;
 
@@ -179,26 +179,8 @@ pub trait Side: Sized {
 }
 
 /// The refusal, then a count or a rate where the call has one; and whether what a call must not change
-/// is as it was. If not, there is a word that no answer of the Rust has.
-pub struct Reply {
-    pub answer: RateFields,
-    pub kept: bool,
-}
-
-impl From<RateFields> for Reply {
-    fn from(answer: RateFields) -> Reply {
-        Reply { answer, kept: true }
-    }
-}
-
-impl Words for Reply {
-    fn write(&self, out: &mut Vec<Word>) {
-        self.answer.write(out);
-        if !self.kept {
-            out.push(Word::Bool(false));
-        }
-    }
-}
+/// is as it was.
+pub type Reply = Lent<RateFields>;
 
 /// The port's windows, with the memory that each call is lent.
 pub struct Port {
