@@ -189,29 +189,37 @@ pub struct Port {
 }
 
 impl Port {
-    fn called(&mut self, step: &Step) -> RateFields {
+    /// Whether a list that a rebuild reads is kept is told with the answer.
+    fn called(&mut self, step: &Step) -> Reply {
         let state = self.state;
         let lent = &mut self.memory.lend(step.short, state.tracked, state.capacity);
+        let mut kept = true;
         let update = match &step.call {
             Call::PushBack(hurdle) => rattle::push_back(state, *hurdle, lent),
             Call::PushFront(hurdle) => rattle::push_front(state, *hurdle, lent),
             Call::PopBack => rattle::pop_back(state),
             Call::PopFront => rattle::pop_front(state),
-            Call::Rebuild(from) => rattle::rebuild(state, from, lent),
+            Call::Rebuild(from) => {
+                let copy = black_box(from.clone());
+                let update = rattle::rebuild(state, &copy, lent);
+                kept = black_box(&copy) == from;
+                update
+            }
             Call::Pairs(n) => {
                 let counted = rattle::pairs(state, *n);
-                return RateFields {
+                return Reply::from(RateFields {
                     refusal: counted.refusal,
                     mark: u8::from(counted.refusal == 0),
                     rate: counted.count as u64,
-                };
+                });
             }
             Call::Rate(n, confidence) => {
-                return rattle::rate_sat_kvb(state, *n, *confidence, lent);
+                return rattle::rate_sat_kvb(state, *n, *confidence, lent).into();
             }
         };
         self.state = update.state;
-        RateFields::refused(update.refusal)
+        let answer = RateFields::refused(update.refusal);
+        Reply { answer, kept }
     }
 
     /// Whether the call left what it must not change: everything where it is refused or only reads, but
@@ -278,9 +286,9 @@ impl Side for Port {
         let before = self
             .is_watched(step)
             .then(|| (self.state, self.memory.clone()));
-        let answer = self.called(step);
-        let kept =
-            before.is_none_or(|(state, memory)| self.keeps(&step.call, answer, state, &memory));
+        let Reply { answer, kept } = self.called(step);
+        let kept = kept
+            && before.is_none_or(|(state, memory)| self.keeps(&step.call, answer, state, &memory));
         Reply { answer, kept }
     }
 
