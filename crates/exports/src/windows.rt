@@ -5,7 +5,8 @@ ghost use Rattle.rbitcoin_mempool.specs.Answer.{answer};
 ghost use Rattle.rbitcoin_mempool.specs.Outcome.{verdict};
 ghost use Rattle.rbitcoin_mempool.specs.Counted.{counted, countedOf};
 ghost use Rattle.rbitcoin_mempool.specs.Median.{analogLookback, lnRate, lowerMedian};
-ghost use Rattle.rbitcoin_mempool.specs.Quantile.{logQuantile, logQuantileLeaves};
+ghost use Rattle.rbitcoin_mempool.specs.Nearest.{analogBand};
+ghost use Rattle.rbitcoin_mempool.specs.Quantile.{historicalConfidenceFar, logQuantile, logQuantileLeaves};
 ghost use Rattle.rbitcoin_mempool.specs.Windows.{windows, openRefusal, opened, stateRefusal, pushRefusalOf, pushBackOf, pushFrontOf, popBackOf, popFrontOf, rebuildRefusalOf, rebuiltOf, pairCount};
 ghost use Rattle.rbitcoin_mempool.specs.Scan.{rateSatKvb, ScratchAfter};
 ghost use Rattle.exports.specs.Fields.{Fields};
@@ -59,6 +60,20 @@ fn count_fields(a: CountAnswer) -> CountFields
         CountAnswer::Count(count) => CountFields { refusal: 0, count },
         CountAnswer::Refused(refusal) => CountFields { refusal, count: 0 },
     }
+}
+
+#[no_mangle]
+pub extern "C" fn juleyomu_analog_band() -> f64
+    ensures { λ r. ⌜ r ≡ analogBand ⌝ }
+{
+    fee_analog::analog_band()
+}
+
+#[no_mangle]
+pub extern "C" fn juleyomu_historical_confidence_far() -> f64
+    ensures { λ r. ⌜ r ≡ historicalConfidenceFar ⌝ }
+{
+    fee_analog::historical_confidence_far()
 }
 
 #[no_mangle]

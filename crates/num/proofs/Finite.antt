@@ -16,8 +16,8 @@ at-0 : (s : Bool) → round binary64 s 0 1 ≡ fin s 0 (pos 0)
 unfolding round
 at-0 s = refl
 
-nothing : (s : Bool) (c : ℕ) → 0 < c → round binary64 s 0 c ≡ fin s 0 (pos 0)
-nothing s c C = round-same binary64 s 0 c 0 1 C (lit< tt) (omega arith) ∙ at-0 s
+pub round-zero : (s : Bool) (c : ℕ) → 0 < c → round binary64 s 0 c ≡ fin s 0 (pos 0)
+round-zero s c C = round-same binary64 s 0 c 0 1 C (lit< tt) (omega arith) ∙ at-0 s
 
 pub less-itself : (x : Float) → eq (sub binary64 x x) (fin false 0 (pos 0)) ≡ isFinite x
 unfolding eq sub
@@ -26,7 +26,7 @@ less-itself (inf true) = refl
 less-itself (inf false) = refl
 less-itself (fin true m e) =
     let a = m * up e * down e in
-    rw (le-ltb a a (omega arith), sub-self a, nothing false (down e * down e) (mul-pos (down-pos e) (down-pos e)))
+    rw (le-ltb a a (omega arith), sub-self a, round-zero false (down e * down e) (mul-pos (down-pos e) (down-pos e)))
 less-itself (fin false m e) =
     let a = m * up e * down e in
-    rw (le-ltb a a (omega arith), sub-self a, nothing false (down e * down e) (mul-pos (down-pos e) (down-pos e)))
+    rw (le-ltb a a (omega arith), sub-self a, round-zero false (down e * down e) (mul-pos (down-pos e) (down-pos e)))

@@ -170,7 +170,7 @@ neither (fin true m e) a b = rw (zero-whole m e (omega (arith, ltb-false 0 (m * 
 neither (fin false m e) a b = rw (zero-whole m e (omega (arith, ltb-false (0 * down e) (m * up e * 1) a)))
 
 -- ---- the ceiling is the floor of -x, negated
-neg-neg : (x : Float) → neg (neg x) ≡ x
+pub neg-neg : (x : Float) → neg (neg x) ≡ x
 unfolding neg
 neg-neg nan = refl
 neg-neg (inf true) = refl

@@ -2,18 +2,17 @@
 use mathlib.Core.Path.{_≡_, refl, subst}
 use mathlib.Core.Bool.{Bool, true, false, _&&_, cond}
 use mathlib.Core.List.{List, [], _∷_}
-use Prim.Native.Nat.{ℕ, zero, suc, _+_, _≤_, _<_}
-use native.Mathlib.Nat.{le-refl, le-trans, lt-of-lt-of-le, eq-or-lt-of-le, le-of-suc-le-suc, not-suc-le-zero}
+use Prim.Native.Nat.{ℕ, zero, suc, _≤_, _<_}
+use native.Mathlib.Nat.{le-refl, lt-of-lt-of-le, eq-or-lt-of-le, le-of-suc-le-suc, not-suc-le-zero}
 use native.Mathlib.Omega.{arith}
 use lib.Dec.{T, ltb, ltb→lt}
 use lib.ListN.{getD, length}
 use lib.Ieee.Fits.{and-l, and-r}
 use mathlib.Core.Logic.{inl, inr}
-use borrow.Author.Tests.{lt-ltb, le-ltb, ltb-true}
+use borrow.Author.Tests.{lt-ltb, ltb-true}
 use Rattle.num.specs.Word.{saturatingAdd}
 use Rattle.slices.specs.Lists.{tabulate}
 use Rattle.slices.proofs.Lists.{tabulate-at, tabulate-length}
-use Rattle.slices.proofs.Search.{seek-is}
 use Rattle.rbitcoin_mempool.specs.Edges.{series, edgeAt, flowBucketEdges, firstAbove, firstBucketAbove}
 
 pub edge-at : (k : ℕ) → k < 401 → getD flowBucketEdges k 0 ≡ edgeAt k
@@ -52,28 +51,12 @@ edge-mono i (suc j) a b =
       | inr l ↦ omega (arith, edge-mono i j (le-of-suc-le-suc l) (omega arith), edge-rises j (omega arith))
     ]
 
--- ---- the search by halving: the edges below lo are at or below the rate, those from hi on above it
-pub record Cut (rate lo hi : ℕ) : Type 0 where
-  pub order : lo ≤ hi
-  pub within : hi ≤ 401
-  pub low : (k : ℕ) → k < lo → edgeAt k ≤ rate
-  pub high : (k : ℕ) → hi ≤ k → k < 401 → rate < edgeAt k
+-- a rate below an edge is below each later one
+abbrev pub above : ℕ → ℕ → Bool
+above rate i = ltb rate (edgeAt i)
 
-pub cut-start : (rate : ℕ) → Cut rate 0 401
-cut-start rate = record { order = omega arith; within = omega arith; low = λ k h. absurd (not-suc-le-zero h); high = λ k h l. absurd (omega arith) }
-
-module _ (rate lo hi mid : ℕ) (c : Cut rate lo hi) (a : lo ≤ mid) (b : mid < hi) where
-  pub cut-up : edgeAt mid ≤ rate → Cut rate (mid + 1) hi
-  cut-up h = record { order = omega arith; within = c .within; low = λ k l. le-trans (edge-mono k mid (omega arith) (omega (arith, c .within))) h; high = c .high }
-
-  pub cut-down : rate < edgeAt mid → Cut rate lo mid
-  cut-down h = record { order = a; within = omega (arith, c .within); low = c .low; high = λ k l m. lt-of-lt-of-le h (edge-mono mid k l m) }
-
-pub cut-end : (rate lo hi : ℕ) → Cut rate lo hi → hi ≤ lo → lo ≡ firstAbove rate
-unfolding firstAbove
-cut-end rate lo hi c h =
-    seek-is (λ i. ltb rate (edgeAt i)) 0 401 lo (omega arith) (omega (arith, c .order, c .within)) (λ k a b. le-ltb rate (edgeAt k) (c .low k b))
-    (λ l. lt-ltb rate (edgeAt lo) (c .high lo h l))
+pub above-stays : (rate i j : ℕ) → i ≤ j → j < 401 → above rate i ≡ true → above rate j ≡ true
+above-stays rate i j l m h = lt-ltb rate (edgeAt j) (lt-of-lt-of-le (ltb-true rate (edgeAt i) h) (edge-mono i j l m))
 
 pub first-bucket-lt : (rate : ℕ) → firstBucketAbove rate < 403
 unfolding firstBucketAbove

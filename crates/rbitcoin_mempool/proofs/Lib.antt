@@ -29,3 +29,17 @@ pub mod Neighbors
 pub mod Scans
 pub mod CaseL
 pub mod Ranks
+pub mod Blend
+pub mod Units
+pub mod Mixes
+pub mod Published
+pub mod Runs
+pub mod Places
+pub mod Line
+pub mod Quotes
+pub mod RateLists
+pub mod Demand3
+pub mod DepthCases
+pub mod Passes
+pub mod Lerp
+pub mod Publishing

@@ -2,23 +2,24 @@
 use mathlib.Core.Path.{_≡_, refl, sym, ap, _∙_}
 use mathlib.Core.Logic.{⊎-elim}
 use mathlib.Core.List.{List}
-use Prim.Native.Nat.{ℕ, _<_}
+use Prim.Native.Nat.{ℕ, _≤_, _<_}
 use native.Mathlib.Omega.{arith}
 use lib.ListN.{length}
 use lib.Ieee.{Float}
 use lib.Dec.{ltb}
 use mathlib.Core.Bool.{Bool, true, false, cond}
 use borrow.Author.Tests.{eq-eqb, ne-eqb, ltb-true}
-use Rattle.rbitcoin_mempool.specs.Answer.{none}
+use Rattle.rbitcoin_mempool.specs.Answer.{Answer, none}
+use Rattle.rbitcoin_mempool.specs.Counted.{count, countedOf}
 use Rattle.rbitcoin_mempool.specs.Pairs.{pairsOf, windowsIn}
 use Rattle.rbitcoin_mempool.specs.Reached.{Reached, by-new, by-pop-back, by-pop-front, by-push-back, by-push-front, by-rebuild}
-use Rattle.rbitcoin_mempool.specs.Scan.{rateAmong, rateIn}
-use Rattle.rbitcoin_mempool.specs.Windows.{Valid, WellStored, Windows, findTarget, fresh, heldIn, openRefusal, opened, pairCount, storedPairs, targetAt, unopened, windows}
+use Rattle.rbitcoin_mempool.specs.Scan.{answerAfter, rateAmong, rateIn, rateSatKvb}
+use Rattle.rbitcoin_mempool.specs.Windows.{Valid, WellStored, Windows, findTarget, fresh, heldIn, openRefusal, opened, pairCount, stateRefusal, storedPairs, targetAt, unopened, windows}
 use Rattle.rbitcoin_mempool.proofs.Grown.{pairs-counted}
 use Rattle.rbitcoin_mempool.proofs.Kept.{Good, empty-good, good-stored, pop-back-good, pop-front-good, push-back-good, push-front-good}
 use Rattle.rbitcoin_mempool.proofs.Parts.{length-held}
 use Rattle.rbitcoin_mempool.proofs.Rebuilds.{rebuild-good}
-use Rattle.rbitcoin_mempool.proofs.Refusals.{lent, zero-or-not}
+use Rattle.rbitcoin_mempool.proofs.Refusals.{lent, scans, valid-state, zero-or-not}
 use Rattle.rbitcoin_mempool.proofs.Scans.{counted-tracked, tracked-pairs}
 
 unopened-valid : (h b a : ℕ) → Valid unopened h b a
@@ -57,9 +58,24 @@ module _ (w : Windows) (r : Reached w) (n : ℕ) where
   pub reached-pairs : findTarget (w .state) n < w .state .tracked → pairCount (w .state) n ≡ length (pairsOf (heldIn w) n)
   reached-pairs h = sym (counted-tracked (w .state) n h) ∙ ap (λ c. windowsIn c n) (sym count-held) ∙ sym (pairs-counted (heldIn w) n)
 
-  pub reached-rate : (c : Float) → rateIn w n c ≡ cond (ltb (findTarget (w .state) n) (w .state .tracked)) (rateAmong (heldIn w) (pairsOf (heldIn w) n) n c) none
+  pairs-or-none : (b : Bool) → ltb (findTarget (w .state) n) (w .state .tracked) ≡ b → pairCount (w .state) n ≡ cond b (length (pairsOf (heldIn w) n)) 0
+  unfolding pairCount
+  pairs-or-none true e = reached-pairs (ltb-true _ _ e)
+  pairs-or-none false e = ap (λ b. cond b (windowsIn (w .state .count) n) 0) e
+
+  pub reached-count : countedOf (stateRefusal (w .state)) (pairCount (w .state) n) ≡ count (cond (ltb (findTarget (w .state) n) (w .state .tracked)) (length (pairsOf (heldIn w) n)) 0)
+  unfolding countedOf
+  reached-count =
+      ap (λ k. countedOf k (pairCount (w .state) n)) (valid-state (w .state) (length (w .hurdles)) (length (w .befores)) (length (w .aheads)) (reached-good r .valid))
+      ∙ ap count (pairs-or-none (ltb (findTarget (w .state) n) (w .state .tracked)) refl)
+
+  -- the rate of the held hurdles, none for a target not tracked
+  abbrev heldRate : Float → Answer
+  heldRate c = cond (ltb (findTarget (w .state) n) (w .state .tracked)) (rateAmong (heldIn w) (pairsOf (heldIn w) n) n c) none
+
+  rate-held : (c : Float) → rateIn w n c ≡ heldRate c
   unfolding rateIn
-  reached-rate c = go (ltb (findTarget (w .state) n) (w .state .tracked)) refl
+  rate-held c = go (ltb (findTarget (w .state) n) (w .state .tracked)) refl
     where
       go : (b : Bool) → ltb (findTarget (w .state) n) (w .state .tracked) ≡ b
           → cond b (rateAmong (heldIn w) (storedPairs w (findTarget (w .state) n)) n c) none ≡ cond b (rateAmong (heldIn w) (pairsOf (heldIn w) n) n c) none
@@ -67,3 +83,10 @@ module _ (w : Windows) (r : Reached w) (n : ℕ) where
           let h = ltb-true _ _ e in
           ap (λ ps. rateAmong (heldIn w) ps n c) (well-stored w (reached-stored w r) (findTarget (w .state) n) h ∙ tracked-pairs (w .state) n h (heldIn w))
       go false e = refl
+
+  -- with z places of scratch, the capacity at the least, nothing is refused
+  pub reached-rate : (z : ℕ) (c : Float) → w .state .capacity ≤ z → rateSatKvb w z n c ≡ heldRate c
+  unfolding rateSatKvb answerAfter
+  reached-rate z c y =
+      ap (λ k. answerAfter k (rateIn w n c)) (scans (w .state) (length (w .hurdles)) (length (w .befores)) (length (w .aheads)) (reached-good r .valid) z y)
+      ∙ rate-held c

@@ -114,7 +114,7 @@ module _ (s : AnalogHistory) (to : ℕ) where
   unfolding popped
   popped-some e n = sym (rw (eq-eqb (stateRefusal s) 0 e, ne-eqb (s .count) 0 n))
 
--- valid windows with room are accepted
+-- valid windows are accepted: with room by a push, with scratch of the capacity by a scan
 module _ (s : AnalogHistory) (h b a : ℕ) (v : Valid s h b a) where
   pub valid-state : stateRefusal s ≡ 0
   unfolding stateRefusal
@@ -124,11 +124,17 @@ module _ (s : AnalogHistory) (h b a : ℕ) (v : Valid s h b a) where
   unfolding sizeRefusal
   valid-size = rw (le-ltb _ _ (v .hurdles-fit), le-ltb _ _ (v .befores-fit), le-ltb _ _ (v .aheads-fit))
 
+  valid-lent : lentRefusal s h b a ≡ 0
+  unfolding lentRefusal
+  valid-lent = or-else-second (stateRefusal s) (sizeRefusal s h b a) valid-state ∙ valid-size
+
   pub accepts : s .count < s .capacity → pushRefusal s h b a ≡ 0
-  unfolding pushRefusal lentRefusal
-  accepts r =
-      let l : lentRefusal s h b a ≡ 0 = or-else-second (stateRefusal s) (sizeRefusal s h b a) valid-state ∙ valid-size in
-      or-else-second (lentRefusal s h b a) _ l ∙ rw (ne-eqb (s .count) (s .capacity) (λ e. omega arith))
+  unfolding pushRefusal
+  accepts r = or-else-second (lentRefusal s h b a) _ valid-lent ∙ rw (ne-eqb (s .count) (s .capacity) (λ e. omega arith))
+
+  pub scans : (z : ℕ) → s .capacity ≤ z → scanRefusal s h b a z ≡ 0
+  unfolding scanRefusal
+  scans z y = or-else-second (lentRefusal s h b a) _ valid-lent ∙ rw (le-ltb _ _ y)
 
 pub scan-accepted : (s : AnalogHistory) (h b a z : ℕ) → scanRefusal s h b a z ≡ 0 → (Valid s h b a) × (s .capacity ≤ z)
 unfolding scanRefusal

@@ -11,7 +11,7 @@ use lib.Ieee.{Float, nan}
 use borrow.Author.Tests.{lt-ltb, le-ltb, le-leb, lt-leb, eqb-true}
 use Rattle.slices.specs.Lists.{tabulate}
 use Rattle.slices.proofs.Lists.{part-offset, tabulate-length, tabulate-same}
-use Rattle.slices.proofs.Search.{seek-found}
+use Rattle.slices.proofs.Search.{sought}
 use Rattle.rbitcoin_mempool.specs.Answer.{Answer, none, rate, refusal}
 use Rattle.rbitcoin_mempool.specs.Counted as counts
 use Rattle.rbitcoin_mempool.specs.Counted.{countedOf}
@@ -95,7 +95,7 @@ same-lookback a b e = omega arith
 module _ (s : AnalogHistory) (n : ℕ) (h : findTarget s n < s .tracked) where
   same-ahead : aheadOf (targetAt s (findTarget s n)) ≡ aheadOf n
   unfolding findTarget
-  same-ahead = eqb-true _ _ (seek-found (λ d. eqb (aheadOf (targetAt s d)) (aheadOf n)) 0 (s .tracked) (omega arith))
+  same-ahead = eqb-true _ _ (sought (λ d. eqb (aheadOf (targetAt s d)) (aheadOf n)) 0 (s .tracked) .here (omega arith))
 
   pub tracked-windows : (c : ℕ) → windowsIn c (targetAt s (findTarget s n)) ≡ windowsIn c n
   unfolding windowsIn

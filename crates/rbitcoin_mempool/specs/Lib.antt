@@ -1,8 +1,14 @@
 -- The definitions that the contracts cite, and document 01's cases about them.
 pub mod Answer
+pub mod Rates
 pub mod Edges
 pub mod Capacity
 pub mod Percentile
+pub mod Depths
+pub mod Hold
+pub mod Target
+pub mod Exact
+pub mod Demand3
 pub mod Cases
 pub mod Meter
 pub mod Median

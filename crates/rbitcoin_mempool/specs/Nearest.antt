@@ -17,9 +17,12 @@ paired [] vs = []
 paired (b ∷ bs) [] = []
 paired (b ∷ bs) (v ∷ vs) = record { before = b; ahead = v } ∷ paired bs vs
 
--- `ANALOG_BAND.ln()`, of 1.25 = 5 / 2^2
+-- `ANALOG_BAND`: 1.25 = 5 / 2^2, and its logarithm
+abbrev pub analogBand : Float
+analogBand = fin false 5 (negsuc 1)
+
 unfoldable pub band : Float
-band = lnOf (fin false 5 (negsuc 1))
+band = lnOf analogBand
 
 -- `(before - now).abs() <= band`
 unfoldable pub inBand : Float → Pair → Bool

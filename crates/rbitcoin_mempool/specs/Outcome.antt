@@ -1,5 +1,6 @@
 -- What an operation on a state is answered with, and which of document 01's numbers each case is. Definitions only.
 use Prim.Native.Nat.{ℕ, zero, suc}
+use mathlib.Core.Option.{Option, none, some}
 use Rattle.rbitcoin_mempool.specs.declared.answer.Outcome.{Outcome}
 use Rattle.rbitcoin_mempool.specs.declared.answer.Outcome.the-variants.{Done, Refused}
 
@@ -11,6 +12,11 @@ pub data Verdict : Type 0 where
 abbrev pub verdict : Outcome → Verdict
 verdict Done = done
 verdict (Refused k) = refused k
+
+-- the number of a refusal, none where it was done
+abbrev pub refusalIn : Verdict → Option ℕ
+refusalIn done = none
+refusalIn (refused k) = some k
 
 -- of a refusal's number, 0 for no refusal
 unfoldable pub verdictOf : ℕ → Verdict

@@ -5,13 +5,17 @@ use mathlib.Core.List.{List, [], _∷_}
 use lib.Dec.{eqb}
 use lib.IntN.{pos}
 use lib.ListN.{length, getD}
-use lib.Ieee.{Float, fin, binary64, add, sub, mul, le}
+use lib.Ieee.{Float, fin, binary64, add, sub, mul, le, ofBits}
 use Rattle.num.specs.Float.{ofU64, toU64, clampOf, floorOf, ceilOf}
 use Rattle.num.specs.Round.{roundToU64}
 use Rattle.num.specs.Exp.{one, expOf}
 use Rattle.num.specs.Ln.{lnOf}
 use Rattle.slices.specs.Sorted.{sorted}
 use Rattle.rbitcoin_mempool.specs.Answer.{Answer, rate, refusal}
+
+-- `HISTORICAL_CONFIDENCE_FAR`: the double nearest 0.95
+abbrev pub historicalConfidenceFar : Float
+historicalConfidenceFar = ofBits binary64 0x3FEE_6666_6666_6666
 
 -- `(confidence * n as f64).clamp(1.0, n as f64)`
 unfoldable pub rankOf : Float → ℕ → Float

@@ -7,6 +7,12 @@ pub enum RateAnswer {
     Refused(u8),
 }
 
+// A rate that is either there with its number or missing.
+pub enum Rate {
+    There(u64),
+    Missing,
+}
+
 // What was asked for is done, or the number of a refusal.
 pub enum Outcome {
     Done,

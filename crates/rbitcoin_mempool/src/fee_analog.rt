@@ -14,6 +14,8 @@ pub use median::analog_lookback;
 pub use median::ln_rate;
 pub use median::lookback_part;
 pub use median::lower_median;
+pub use nearest::analog_band;
+pub use quantile::historical_confidence_far;
 pub use quantile::log_quantile;
 
 // Lookback medians within this ratio of now count as "looked like now".

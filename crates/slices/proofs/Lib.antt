@@ -1,4 +1,5 @@
 -- Laws of `sorted`, of counts, of moved runs, and of the steps of selection and of sorting.
+pub mod Every
 pub mod Lists
 pub mod Search
 pub mod Sorting

@@ -1,4 +1,5 @@
 -- The definitions that the contracts cite.
+pub mod Every
 pub mod Lists
 pub mod Search
 pub mod Sorted

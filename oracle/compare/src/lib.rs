@@ -7,6 +7,7 @@
 
 pub mod bench;
 pub mod check;
+pub mod exact;
 pub mod lent;
 pub mod options;
 pub mod parts;

@@ -1,6 +1,7 @@
 //! The parts of the comparison, one a file.
 
 mod capacity;
+mod depths;
 mod meter;
 mod num;
 mod windows;
@@ -18,6 +19,11 @@ pub trait Part {
     /// [`Plan::scaled`] inputs.
     fn jobs(&self, plan: &Plan) -> Vec<Job>;
 
+    /// What the jobs have seen besides, once they have run: a line each.
+    fn remarks(&self) -> Vec<String> {
+        Vec::new()
+    }
+
     /// A few hundred questions with every boundary, for the program that replays them.
     fn replay(&self, replay: &mut Replay);
 
@@ -30,4 +36,5 @@ pub const PARTS: &[&dyn Part] = &[
     &capacity::Capacity,
     &meter::FeeFlow,
     &windows::PairWindows,
+    &depths::Depths,
 ];

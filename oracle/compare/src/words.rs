@@ -200,6 +200,12 @@ impl Words for bool {
     }
 }
 
+impl Input for bool {
+    fn smaller(&self) -> Vec<bool> {
+        self.then_some(false).into_iter().collect()
+    }
+}
+
 /// The input of a constant.
 impl Words for () {
     fn write(&self, _: &mut Vec<Word>) {}

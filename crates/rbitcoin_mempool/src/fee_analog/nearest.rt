@@ -7,10 +7,18 @@ ghost use Prim.Native.Nat.{_-_, _≤_};
 ghost use lib.ListN.{length, take, drop};
 ghost use lib.Ieee.{le, neg};
 ghost use Rattle.slices.specs.Sorted.{below};
-ghost use Rattle.rbitcoin_mempool.specs.Nearest.{Cut, paired, distances, outcomesInBand, nearest, outcomesNearest, neighbors};
+ghost use Rattle.rbitcoin_mempool.specs.Nearest.{analogBand, Cut, paired, distances, outcomesInBand, nearest, outcomesNearest, neighbors};
 ghost use Rattle.rbitcoin_mempool.specs.Quantile.{quantileOf};
+use super::ANALOG_BAND;
 use super::ANALOG_MIN_NEIGHBORS;
 use super::quantile::quantile_of;
+
+// The band's ratio. `num::ln::ln_1_25` is its logarithm.
+pub fn analog_band() -> f64
+    ensures { λ r. ⌜ r ≡ analogBand ⌝ }
+{
+    ANALOG_BAND
+}
 
 // Whether d is at most `limit` away from 0, on either side.
 fn is_within(d: f64, limit: f64) -> bool
@@ -116,9 +124,17 @@ fn nearest_quantile(
     fill_distances(logs, level, scratch);
     let n = logs.len();
     let cut = slices::sort::select_nth(&mut scratch[..n], 199);
-    let wanted = 200 - count_below(&scratch[..n], cut);
+    let wanted = ANALOG_MIN_NEIGHBORS - count_below(&scratch[..n], cut);
     let mut near = [0u64; 200];
-    collect_nearest(logs, level, outcomes, cut, wanted, 200, &mut near);
+    collect_nearest(
+        logs,
+        level,
+        outcomes,
+        cut,
+        wanted,
+        ANALOG_MIN_NEIGHBORS,
+        &mut near,
+    );
     quantile_of(&mut near, confidence)
 }
 

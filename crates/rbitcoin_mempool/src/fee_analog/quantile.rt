@@ -2,8 +2,16 @@
 ghost use mathlib.Core.Path.{_≡_};
 ghost use lib.ListN.{getD};
 ghost use Rattle.rbitcoin_mempool.specs.Answer.{answer};
-ghost use Rattle.rbitcoin_mempool.specs.Quantile.{rankOf, lowerPlace, upperPlace, blendOf, between, quantileOf, inUnit, logQuantile, logQuantileLeaves};
+ghost use Rattle.rbitcoin_mempool.specs.Quantile.{historicalConfidenceFar, rankOf, lowerPlace, upperPlace, blendOf, between, quantileOf, inUnit, logQuantile, logQuantileLeaves};
+use super::HISTORICAL_CONFIDENCE_FAR;
 use crate::answer::RateAnswer;
+
+// The confidence for targets past one block.
+pub fn historical_confidence_far() -> f64
+    ensures { λ r. ⌜ r ≡ historicalConfidenceFar ⌝ }
+{
+    HISTORICAL_CONFIDENCE_FAR
+}
 
 fn rank_of(confidence: f64, n: usize) -> f64
     ensures { λ r. ⌜ r ≡ rankOf confidence n ⌝ }

@@ -58,6 +58,9 @@ fn run() -> Result<bool, String> {
     let mut total = Count::default();
     for part in parts {
         total += check::run(part.name(), part.jobs(&plan), plan.seed);
+        for remark in part.remarks() {
+            println!("{}: {remark}", part.name());
+        }
     }
     println!("total: {total}");
     Ok(total.differences == 0)

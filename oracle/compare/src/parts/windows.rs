@@ -25,6 +25,17 @@ use sides::{
 };
 use upstream_mempool::fee_analog as upstream;
 
+const BAND: Function<(), f64> =
+    Function::new("analog_band", |_| rattle::analog_band(), |_| ANALOG_BAND)
+        .same_upstream(|_| upstream::ANALOG_BAND);
+
+const CONFIDENCE_FAR: Function<(), f64> = Function::new(
+    "historical_confidence_far",
+    |_| rattle::historical_confidence_far(),
+    |_| patched::HISTORICAL_CONFIDENCE_FAR,
+)
+.same_upstream(|_| upstream::HISTORICAL_CONFIDENCE_FAR);
+
 const ANALOG_LOOKBACK: Function<u32, usize> = Function::new(
     "analog_lookback",
     |&n| rattle::analog_lookback(n),
@@ -163,6 +174,9 @@ impl Neighbors {
 }
 
 fn rate_region(quote: &Quote) -> &'static str {
+    if let rattle::HURDLES..=rattle::SCRATCH = quote.short {
+        return "refused";
+    }
     match Neighbors::of(quote) {
         None => "no rate",
         Some(of) if of.in_band >= ANALOG_MIN_NEIGHBORS => "200 or more in band",
@@ -300,10 +314,11 @@ fn limit_calls(capacity: u64) -> [Call; 11] {
     ]
 }
 
-/// Case L, and openings at every limit with calls on what they leave: with each list too short in turn.
+/// Case L, and openings at every limit with calls on what they leave: with each list too short in turn,
+/// and with exact lists.
 fn opening_cases() -> Vec<Case> {
     let mut cases = vec![case_l()];
-    let shorts: Vec<u8> = (0..=rattle::SCRATCH).collect();
+    let shorts: Vec<u8> = (0..=rattle::EXACT).collect();
     for ((count, capacity), (short, call_short)) in pairs(&SIZES, &pairs(&shorts, &shorts)) {
         let opening = Opening {
             targets: (0..count).collect(),
@@ -361,6 +376,8 @@ fn number_jobs(some: u64) -> Vec<Job> {
     let blocks = boundary_words().into_iter();
     let blocks: Vec<u32> = blocks.filter_map(|word| word.try_into().ok()).collect();
     vec![
+        Job::over(BAND, [()]),
+        Job::over(CONFIDENCE_FAR, [()]),
         Job::over(ANALOG_LOOKBACK, [0, 12, 16, 576]),
         Job::over(ANALOG_LOOKBACK, 0..100_001_u32),
         Job::over(ANALOG_LOOKBACK, blocks),
@@ -454,7 +471,7 @@ mod tests {
                 exactly[of.in_band - 199] += 1;
             }
         }
-        assert_eq!(regions.len(), 4, "{regions:?}");
+        assert_eq!(regions.len(), 5, "{regions:?}");
         assert!(regions.values().all(|count| *count > 10), "{regions:?}");
         assert!(exactly.iter().all(|count| *count > 0), "{exactly:?}");
     }
@@ -471,6 +488,7 @@ mod tests {
             },
             target: 1,
             confidence: 0.99,
+            short: 0,
         };
         let differs = |quote: &Quote| {
             let rate = rate_of::<Rust<Patched>>(quote).answer;

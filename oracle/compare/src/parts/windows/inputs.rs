@@ -120,28 +120,31 @@ pub fn draw_confidence(rng: &mut Rng) -> f64 {
     }
 }
 
-/// A rate asked of windows with one target that were given these hurdles.
+/// A rate asked of windows with one target that were given these hurdles, and the list that the question
+/// is lent one place too short, as in a `Step`.
 #[derive(Clone)]
 pub struct Quote {
     pub stretch: Stretch,
     pub target: u32,
     pub confidence: f64,
+    pub short: u8,
 }
 
 impl Words for Quote {
     fn write(&self, out: &mut Vec<Word>) {
         self.stretch.write(out);
-        (self.target, self.confidence).write(out);
+        (self.target, self.confidence, self.short).write(out);
     }
 }
 
 impl Input for Quote {
     fn smaller(&self) -> Vec<Quote> {
-        let parts = (self.stretch, self.target, self.confidence).smaller();
-        let quote = |(stretch, target, confidence)| Quote {
+        let parts = (self.stretch, (self.target, self.confidence), self.short).smaller();
+        let quote = |(stretch, (target, confidence), short)| Quote {
             stretch,
             target,
             confidence,
+            short,
         };
         parts.into_iter().map(quote).collect()
     }
@@ -154,26 +157,30 @@ impl Quote {
             capacity: self.stretch.length,
             short: 0,
         };
-        let calls = [
-            Call::Rebuild(self.stretch.hurdles()),
-            Call::Rate(self.target, self.confidence),
-        ];
-        (opening, calls.map(Step::from).into())
+        let question = Step {
+            call: Call::Rate(self.target, self.confidence),
+            short: self.short,
+        };
+        let rebuild = Call::Rebuild(self.stretch.hurdles()).into();
+        (opening, vec![rebuild, question])
     }
 }
 
 /// Every kind of hurdles, with 1,999, 2,000 and 2,001 pairs, at every confidence; and levels that step
-/// some 200 before the end.
+/// some 200 before the end. At 0.95 also with each list too short in turn, and with exact lists.
 pub fn fixed_quotes() -> Vec<Quote> {
     let mut quotes = Vec::new();
     let mut quote = |kind, seed, pairs, target| {
         let length = length_for(target, pairs);
         let stretch = Stretch { kind, seed, length };
-        quotes.extend(CONFIDENCES.map(|confidence| Quote {
+        let asked = |confidence, short| Quote {
             stretch,
             target,
             confidence,
-        }));
+            short,
+        };
+        quotes.extend(CONFIDENCES.map(|confidence| asked(confidence, 0)));
+        quotes.extend((rattle::HURDLES..=rattle::EXACT).map(|short| asked(0.95, short)));
     };
     for target in [0, 1, 2, 6, 12, 24, 144, 504, 1008] {
         for kind in 0..KINDS {
@@ -208,6 +215,7 @@ pub fn draw_quote(rng: &mut Rng) -> Quote {
         stretch,
         target,
         confidence: draw_confidence(rng),
+        short: rattle::EXACT * (stretch.seed % 2) as u8,
     }
 }
 
@@ -228,7 +236,7 @@ pub fn draw_hurdle(rng: &mut Rng) -> u64 {
     }
 }
 
-/// One call in eight is lent a list that is too short.
+/// One call in eight is lent a list that is too short, and four of the others exact lists.
 fn draw_short(rng: &mut Rng) -> u8 {
     match rng.below(8) {
         0 => rng.pick(&[
@@ -237,6 +245,7 @@ fn draw_short(rng: &mut Rng) -> u8 {
             rattle::AHEADS,
             rattle::SCRATCH,
         ]),
+        1..5 => rattle::EXACT,
         _ => 0,
     }
 }

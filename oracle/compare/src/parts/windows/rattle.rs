@@ -27,7 +27,7 @@ pub struct CountFields {
     pub count: usize,
 }
 
-/// Places that are lent beyond those asked for.
+/// Places beyond those asked for: lent too, but for `EXACT`.
 const SLACK: usize = 3;
 
 /// Memory for pair windows, with contents that no call leaves there.
@@ -44,6 +44,8 @@ pub const HURDLES: u8 = 1;
 pub const BEFORES: u8 = 2;
 pub const AHEADS: u8 = 3;
 pub const SCRATCH: u8 = 4;
+/// No list is too short, and each is lent exactly as long as asked for.
+pub const EXACT: u8 = 5;
 
 /// What one call is lent.
 pub struct Lists<'a> {
@@ -69,11 +71,14 @@ impl Memory {
         }
     }
 
-    /// The list that `short` names one place shorter than windows of this size ask for.
+    /// The list that `short` names one place shorter than windows of this size ask for, or every list
+    /// exactly as long.
     pub fn lend(&mut self, short: u8, tracked: usize, capacity: usize) -> Lists<'_> {
         let length = |list: u8, held: usize, asked: usize| {
             if list == short {
                 held.min(asked.saturating_sub(1))
+            } else if short == EXACT {
+                held.min(asked)
             } else {
                 held
             }
@@ -91,6 +96,10 @@ impl Memory {
 }
 
 unsafe extern "C" {
+    #[link_name = "juleyomu_analog_band"]
+    pub safe fn analog_band() -> f64;
+    #[link_name = "juleyomu_historical_confidence_far"]
+    pub safe fn historical_confidence_far() -> f64;
     #[link_name = "juleyomu_analog_lookback"]
     pub safe fn analog_lookback(n: u32) -> usize;
     #[link_name = "juleyomu_ln_rate"]

@@ -5,7 +5,7 @@ use crate::lent::{Lent, RateFields};
 use crate::words::{Input, Word, Words};
 use std::hint::black_box;
 
-/// Targets, capacity, and the list that is lent one place too short, 0 for none.
+/// Targets, capacity, and the list that is lent one place too short, 0 for none; none too is `EXACT`.
 #[derive(Clone)]
 pub struct Opening {
     pub targets: Vec<u32>,
@@ -77,7 +77,7 @@ impl Input for Call {
     }
 }
 
-/// A call, and the list that it is lent one place too short, 0 for none.
+/// A call, and the list that it is lent one place too short, 0 for none; none too is `EXACT`.
 #[derive(Clone)]
 pub struct Step {
     pub call: Call,

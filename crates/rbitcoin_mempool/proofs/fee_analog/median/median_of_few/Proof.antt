@@ -27,7 +27,7 @@ select-nth-requires c κs = search needs
 returns : tie.Need-returns
 returns c =
     let a = c .before .before .before .before .before .before .before .before .args in
-    median-selected (a .values .now) (replicate 16 0) (c .before .before .before .before .before .copy-front .last .0) (c .before .select-nth .last .0) (c .before .before .half .result) _ (c .before .before .before .before .before .copy-front .ensures) (omega arith) (c .before .before .half .ensures) (c .before .select-nth .ensures)
+    median-selected (a .values .now) (replicate 16 0) (c .before .before .before .before .before .copy-front .last .0) (c .before .select-nth .last .0) (c .before .before .half .result) _ (c .before .before .before .before .before .copy-front .ensures) (omega arith) (c .before .before .half .ensures) (c .before .select-nth .ensures .0)
 
 pub median-of-few-spec : {M : Type 1} → statement M
 median-of-few-spec =

@@ -24,7 +24,7 @@ selected k =
     let f = k .before .before .before .before .fill-distances in
     subst (λ (l : List ℕ). Selected 199 l (k .select-nth .last .0) (k .select-nth .result))
     (front-of (ds k) (s .args .scratch .now) (f .last .1 .1 .0) (length (s .args .logs .now)) (f .ensures) (f .kept .1 .1 .0) (s .pre .1 .1))
-    (k .select-nth .ensures)
+    (k .select-nth .ensures .0)
 
 cut : (k : tie.After-select-nth) → Cut 200 (ds k) (k .select-nth .result)
 cut k = cut-selected 200 (ds k) _ _ (selected k) (omega arith) (omega (arith, distances-length (k .before .before .before .before .before .before .before .before .before .args .logs .now) (k .before .before .before .before .before .before .before .before .before .args .level), k .before .before .before .before .before .before .before .before .before .pre .1 .0))

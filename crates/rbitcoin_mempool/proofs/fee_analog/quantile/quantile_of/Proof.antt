@@ -28,7 +28,7 @@ same-length c = search needs
 returns : tie.Need-returns
 returns c =
     let s = c .before .before .before .before .before .before .before .before .before .before .before .before .before .args in
-    let k = c .before .before .before .before .before .before .before .select-nth .ensures in
+    let k = c .before .before .before .before .before .before .before .select-nth .ensures .0 in
     quantile-by (s .confidence) (s .xs .now) (c .before .before .before .before .before .before .before .before .before .before .before .rank-of .result) _ _ _ _ _
     (c .before .before .before .before .before .before .before .before .before .before .before .rank-of .ensures)
     (c .before .before .before .before .before .before .before .before .before .before .lower-place .ensures)
@@ -49,13 +49,13 @@ same-length-2 c = search needs
 returns-2 : tie.Need-returns-2
 returns-2 c =
     let s = c .before .before .before .before .before .before .before .before .before .before .before .before .before .before .args in
-    let k = c .before .before .before .before .before .before .before .before .select-nth .ensures in
+    let k = c .before .before .before .before .before .before .before .before .select-nth .ensures .0 in
     quantile-by (s .confidence) (s .xs .now) (c .before .before .before .before .before .before .before .before .before .before .before .before .rank-of .result) _ _ _ _ _
     (c .before .before .before .before .before .before .before .before .before .before .before .before .rank-of .ensures)
     (c .before .before .before .before .before .before .before .before .before .before .before .lower-place .ensures)
     (c .before .before .before .before .before .before .before .before .before .before .upper-place .ensures)
     (k .found)
-    (select-again _ _ _ _ _ _ _ k (c .before .before .before .select-nth2 .ensures))
+    (select-again _ _ _ _ _ _ _ k (c .before .before .before .select-nth2 .ensures .0))
     (c .between2 .ensures)
 
 pub quantile-of-spec : {M : Type 1} → statement M

@@ -1,0 +1,34 @@
+-- `exports::depths::juleyomu_warmup_blend` meets its contract: the rate is marked as the answer is. Assumes nothing.
+use borrow.Author.Needs.{needs}
+use mathlib.Core.Path.{ap, _∙_}
+use Rattle.rbitcoin_mempool.specs.Rates.{numberOf, markOf}
+use Rattle.exports.proofs.depths.juleyomu_warmup_blend.Statement.{statement}
+use Rattle.exports.proofs.depths.juleyomu_warmup_blend.Tie as tie
+
+rate-of-requires : tie.Need-rate-of-requires
+rate-of-requires c κs = search needs
+
+rate-of-requires-2 : tie.Need-rate-of-requires-2
+rate-of-requires-2 c κs = search needs
+
+warmup-blend-requires : tie.Need-warmup-blend-requires
+warmup-blend-requires c κs = search needs
+
+marked-rate-requires : tie.Need-marked-rate-requires
+marked-rate-requires c κs = search needs
+
+returns : tie.Need-returns
+returns c =
+    let u = c .marked-rate .ensures in
+    let e = rw (c .before .before .before .rate-of .ensures, c .before .before .rate-of2 .ensures) at (c .before .warmup-blend .ensures .0) in
+    (u .0 ∙ ap markOf e, u .1 ∙ ap numberOf e)
+
+pub juleyomu-warmup-blend-spec : {M : Type 1} → statement M
+juleyomu-warmup-blend-spec =
+    tie.close
+    (tie.spec
+    rate-of-requires
+    rate-of-requires-2
+    warmup-blend-requires
+    marked-rate-requires
+    returns)

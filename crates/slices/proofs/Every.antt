@@ -1,0 +1,43 @@
+-- `every` by what it says at a place. Assumes nothing.
+use mathlib.Core.Path.{_≡_, refl, sym}
+use Prim.Native.Nat.{ℕ, zero, suc, _<_}
+use native.Mathlib.Nat.{eq-or-lt-of-le, le-of-suc-le-suc, not-suc-le-zero}
+use native.Mathlib.Omega.{arith}
+use mathlib.Core.Logic.{inl, inr}
+use mathlib.Core.Bool.{Bool, true, false, _&&_, true≢false}
+use Rattle.slices.specs.Every.{every}
+
+and-right : (a b : Bool) → a && b ≡ true → b ≡ true
+and-right true b e = e
+and-right false b e = absurd (true≢false (sym e))
+
+and-left : (a b : Bool) → a && b ≡ true → a ≡ true
+and-left true b e = refl
+and-left false b e = absurd (true≢false (sym e))
+
+and-false : (a b : Bool) → b ≡ false → a && b ≡ false
+and-false true b e = e
+and-false false b e = refl
+
+pub every-true : (p : ℕ → Bool) (n : ℕ) → ((k : ℕ) → k < n → p k ≡ true) → every p n ≡ true
+unfolding every
+every-true p zero h = refl
+every-true p (suc n) h = rw (every-true p n (λ k l. h k (omega arith))) (h n (omega arith))
+
+pub every-at : (p : ℕ → Bool) (n : ℕ) → every p n ≡ true → (k : ℕ) → k < n → p k ≡ true
+unfolding every
+every-at p zero e k l = absurd (not-suc-le-zero l)
+every-at p (suc n) e k l =
+    elim (eq-or-lt-of-le (le-of-suc-le-suc l)) [
+      | inl q ↦ rw q (and-right (every p n) (p n) e)
+      | inr m ↦ every-at p n (and-left (every p n) (p n) e) k m
+    ]
+
+pub every-false : (p : ℕ → Bool) (n k : ℕ) → k < n → p k ≡ false → every p n ≡ false
+unfolding every
+every-false p zero k l f = absurd (not-suc-le-zero l)
+every-false p (suc n) k l f =
+    elim (eq-or-lt-of-le (le-of-suc-le-suc l)) [
+      | inl q ↦ and-false (every p n) (p n) (rw (← q) f)
+      | inr m ↦ rw (every-false p n k m f)
+    ]
