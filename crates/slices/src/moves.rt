@@ -1,5 +1,5 @@
-// Moving a run of elements within a lent list: Rust's `copy_within`, which the kit has not, of both
-// element types that the fee code keeps in lent memory.
+// Moving a run of elements within a lent list: Rust's `copy_within`, which the kit has not, of each
+// element type that the fee code keeps in lent memory.
 ghost use mathlib.Core.Path.{_≡_};
 ghost use Prim.Native.Nat.{_+_, _≤_};
 ghost use lib.ListN.{length};
@@ -39,6 +39,50 @@ fn down_f64(xs: &mut [f64], to: usize, from: usize, n: usize)
 }
 
 fn up_f64(xs: &mut [f64], to: usize, from: usize, n: usize)
+    requires { ⌜ (from ≤ to) × (to + n ≤ length (now xs)) ⌝ }
+    ensures { λ _. ⌜ now (xs .exit) ≡ moved (now (xs .entry)) to from n ⌝ }
+{
+    let mut i = n;
+    while i > 0 {
+        i -= 1;
+        xs[to + i] = xs[from + i];
+    }
+}
+
+fn down_u32(xs: &mut [u32], to: usize, from: usize, n: usize)
+    requires { ⌜ (to ≤ from) × (from + n ≤ length (now xs)) ⌝ }
+    ensures { λ _. ⌜ now (xs .exit) ≡ moved (now (xs .entry)) to from n ⌝ }
+{
+    let mut i = 0;
+    while i < n {
+        xs[to + i] = xs[from + i];
+        i += 1;
+    }
+}
+
+fn up_u32(xs: &mut [u32], to: usize, from: usize, n: usize)
+    requires { ⌜ (from ≤ to) × (to + n ≤ length (now xs)) ⌝ }
+    ensures { λ _. ⌜ now (xs .exit) ≡ moved (now (xs .entry)) to from n ⌝ }
+{
+    let mut i = n;
+    while i > 0 {
+        i -= 1;
+        xs[to + i] = xs[from + i];
+    }
+}
+
+fn down_u8(xs: &mut [u8], to: usize, from: usize, n: usize)
+    requires { ⌜ (to ≤ from) × (from + n ≤ length (now xs)) ⌝ }
+    ensures { λ _. ⌜ now (xs .exit) ≡ moved (now (xs .entry)) to from n ⌝ }
+{
+    let mut i = 0;
+    while i < n {
+        xs[to + i] = xs[from + i];
+        i += 1;
+    }
+}
+
+fn up_u8(xs: &mut [u8], to: usize, from: usize, n: usize)
     requires { ⌜ (from ≤ to) × (to + n ≤ length (now xs)) ⌝ }
     ensures { λ _. ⌜ now (xs .exit) ≡ moved (now (xs .entry)) to from n ⌝ }
 {
@@ -89,8 +133,60 @@ pub fn copy_within_f64(xs: &mut [f64], to: usize, from: usize, n: usize)
     }
 }
 
+pub fn copy_within_u32(xs: &mut [u32], to: usize, from: usize, n: usize)
+    ensures { λ _. ⌜ now (xs .exit) ≡ copyWithin (now (xs .entry)) to from n ⌝ }
+{
+    if !both_fit(xs.len(), to, from, n) {
+        return;
+    }
+    if to <= from {
+        down_u32(xs, to, from, n);
+    } else {
+        up_u32(xs, to, from, n);
+    }
+}
+
+pub fn copy_within_u8(xs: &mut [u8], to: usize, from: usize, n: usize)
+    ensures { λ _. ⌜ now (xs .exit) ≡ copyWithin (now (xs .entry)) to from n ⌝ }
+{
+    if !both_fit(xs.len(), to, from, n) {
+        return;
+    }
+    if to <= from {
+        down_u8(xs, to, from, n);
+    } else {
+        up_u8(xs, to, from, n);
+    }
+}
+
 // The elements of `from`, to the front of `xs`; nothing where they do not fit.
 pub fn copy_front(xs: &mut [u64], from: &[u64])
+    ensures { λ _. ⌜ now (xs .exit) ≡ copyFront (now (xs .entry)) (now (from .entry)) ⌝ }
+{
+    if xs.len() < from.len() {
+        return;
+    }
+    let mut i = 0;
+    while i < from.len() {
+        xs[i] = from[i];
+        i += 1;
+    }
+}
+
+pub fn copy_front_u32(xs: &mut [u32], from: &[u32])
+    ensures { λ _. ⌜ now (xs .exit) ≡ copyFront (now (xs .entry)) (now (from .entry)) ⌝ }
+{
+    if xs.len() < from.len() {
+        return;
+    }
+    let mut i = 0;
+    while i < from.len() {
+        xs[i] = from[i];
+        i += 1;
+    }
+}
+
+pub fn copy_front_u8(xs: &mut [u8], from: &[u8])
     ensures { λ _. ⌜ now (xs .exit) ≡ copyFront (now (xs .entry)) (now (from .entry)) ⌝ }
 {
     if xs.len() < from.len() {

@@ -1,0 +1,88 @@
+-- `evict`: the code's turns by the definitions. Assumes nothing.
+use Prim.Native.Nat.{ℕ, zero, suc, _+_, _-_, _*_, _≤_, _<_}
+use mathlib.Core.Path.{_≡_, refl, sym, _∙_, ap, subst}
+use mathlib.Core.Bool.{Bool, true, false, cond}
+use mathlib.Core.List.{List}
+use native.Mathlib.Omega.{arith}
+use lib.Dec.{ltb}
+use lib.ListN.{length, getD}
+use borrow.Author.Tests.{lt-ltb, le-ltb}
+use Rattle.slices.proofs.Runs.{length-moved}
+use Rattle.rbitcoin_mempool.specs.Windows.{popFrontOf}
+use Rattle.rbitcoin_net.specs.Lent.{Rows, Hashes, hashes}
+use Rattle.rbitcoin_net.specs.Search.{isAt}
+use Rattle.rbitcoin_net.specs.Hashes.{Kept, kept, Room, movedHashes, hashPlace, removeAt, removeHash}
+use Rattle.rbitcoin_net.specs.Cuts.{withRows, withSums, withHashes, unkept, forgetRow}
+use Rattle.rbitcoin_net.specs.Evictions.{Held, held, evictRow, evictOldest, evictRows, evictIn}
+use Rattle.rbitcoin_net.specs.declared.fee_history.FeeHistory.{FeeHistory}
+use Rattle.rbitcoin_net.proofs.Search.{is-at-true}
+
+-- a dropped hash leaves room
+pub remove-room : (h : ℕ) (k : Kept) → Room k → Room (removeHash h k)
+unfolding removeHash removeAt
+remove-room h k r = go (isAt (k .lists .heights) (k .count) h (hashPlace h k)) refl
+  where
+    q : ℕ
+    q = hashPlace h k
+
+    moved-room : q < k .count → Room (kept (k .count - 1) (movedHashes q (q + 1) (k .count - q - 1) (k .lists)))
+    moved-room l =
+        let f = r .few in
+        let a = r .heights in
+        let b = r .bytes in
+        let e = length-moved (k .lists .heights) q (q + 1) (k .count - q - 1) (omega arith) (omega arith) in
+        let d = length-moved (k .lists .bytes) (32 * q) (32 * (q + 1)) (32 * (k .count - q - 1)) (omega arith) (omega arith) in
+        record { few = omega arith; heights = omega arith; bytes = omega arith }
+
+    go : (b : Bool) → isAt (k .lists .heights) (k .count) h q ≡ b → Room (cond b (kept (k .count - 1) (movedHashes q (q + 1) (k .count - q - 1) (k .lists))) k)
+    go true t = moved-room (is-at-true (k .lists .heights) (k .count) h q t .0)
+    go false t = r
+
+-- one row evicted
+pub evicted-one : (height mark size left : ℕ) (s t : FeeHistory) (z y : Hashes) → kept left y ≡ removeHash height (kept (s .hashes) z) → t ≡ forgetRow popFrontOf mark size s
+    → held (withHashes left (withRows (s .start + 1) (s .count - 1) t)) y ≡ evictRow height mark size (held s z)
+unfolding evictRow
+evicted-one height mark size left s t z y e d =
+    (λ i. held (withHashes (e i .count) (withRows (s .start + 1) (s .count - 1) (d i))) (e i .lists))
+
+-- what the loop keeps: the rows that are left lie in the lists, the hashes have room, and evicting from here gives what it gave at first
+pub record Going (m : Rows) (h k r : ℕ) (goal : Held) (x : Held) : Type 0 where
+  pub small : x .state .start + x .state .count ≤ 65536
+  pub heights : x .state .start + x .state .count ≤ h
+  pub marks : x .state .start + x .state .count ≤ k
+  pub sizes : x .state .start + x .state .count ≤ r
+  pub room : Room (kept (x .state .hashes) (x .hashes))
+  pub same : evictRows m (x .state .count) x ≡ goal
+
+-- where nothing is over, what is left is what was asked for
+pub within-budget : (m : Rows) (n : ℕ) (x : Held) → x .state .«txstat_bytes» ≤ x .state .budget → x ≡ evictRows m n x
+unfolding evictRows
+within-budget m zero x l = rw (le-ltb _ _ l)
+within-budget m (suc n) x l = rw (le-ltb _ _ l)
+
+pub none-left : (m : Rows) (n : ℕ) (x : Held) → n ≡ 0 → x .state .budget < x .state .«txstat_bytes» → held (withSums (x .state .analog) 0 (x .state)) (x .hashes) ≡ evictRows m n x
+unfolding evictRows
+none-left m n x z l = sym (ap (λ j. evictRows m j x) z ∙ rw (lt-ltb _ _ l))
+
+evict-turn : (m : Rows) (n : ℕ) (x : Held) → 0 < n → x .state .budget < x .state .«txstat_bytes» → evictRows m n x ≡ evictRows m (n - 1) (evictOldest m x)
+unfolding evictRows
+evict-turn m zero x p l = absurd (omega arith)
+evict-turn m (suc n) x p l = let e : suc n - 1 ≡ n = omega arith in rw (e, lt-ltb _ _ l)
+
+-- a turn of the loop
+pub going-on : (m : Rows) (h k r : ℕ) (goal x y : Held) → Going m h k r goal x → 0 < x .state .count → x .state .budget < x .state .«txstat_bytes» → y ≡ evictOldest m x → Going m h k r goal y
+unfolding evictRow
+going-on m h k r goal x y g p l e =
+    subst (Going m h k r goal) (sym e)
+    record {
+      small = omega (arith, g .small);
+      heights = omega (arith, g .heights);
+      marks = omega (arith, g .marks);
+      sizes = omega (arith, g .sizes);
+      room = remove-room (getD (m .heights) (x .state .start) 0) (kept (x .state .hashes) (x .hashes)) (g .room);
+      same = sym (evict-turn m (x .state .count) x p l) ∙ g .same;
+    }
+
+pub evicted-count : (height mark size : ℕ) (x : Held) → evictRow height mark size x .state .count ≡ x .state .count - 1
+unfolding evictRow
+evicted-count height mark size x = refl

@@ -1,0 +1,27 @@
+-- Laws that belong to no one function.
+pub mod Examples
+pub mod Tables
+pub mod Search
+pub mod Refusals
+pub mod Readers
+pub mod Hashes
+pub mod HashViews
+pub mod EvictViews
+pub mod Cuts
+pub mod Evictions
+pub mod Rooms
+pub mod Openings
+pub mod CutViews
+pub mod CutSound
+pub mod MapLaws
+pub mod EvictSound
+pub mod Stores
+pub mod Pushed
+pub mod Connects
+pub mod Inserting
+pub mod Connecting
+pub mod Preloads
+pub mod Preloading
+pub mod Full
+pub mod Sums
+pub mod Runs

@@ -1,0 +1,57 @@
+-- A row put in among the held rows: what it does to every place of one of their lists, and where the rows start then. Definitions only.
+use Prim.Native.Nat.{ℕ, _+_, _-_, _≤_, _<_}
+use mathlib.Core.Bool.{cond}
+use mathlib.Core.List.{List}
+use lib.Dec.{leb, ltb, eqb}
+use lib.ListN.{set}
+use Rattle.num.specs.Word.{saturatingAdd}
+use Rattle.slices.specs.Lists.{moved}
+use Rattle.rbitcoin_mempool.specs.Rates.{markOf, numberOf}
+use Rattle.rbitcoin_net.specs.History.{hurdleOf}
+use Rattle.rbitcoin_net.specs.Lent.{Rows, rows}
+use Rattle.rbitcoin_net.specs.Cuts.{withRows, withSums}
+use Rattle.rbitcoin_net.specs.declared.fee_history.HistoricalFeeBlock.{HistoricalFeeBlock}
+use Rattle.rbitcoin_net.specs.declared.fee_history.FeeHistory.{FeeHistory}
+
+-- of q + r elements from place `from` on, the first q moved to `to`, the others to one place behind them, in the order in which none is overwritten, and v put between
+unfoldable pub opened : {A : Type 0} → ℕ → ℕ → ℕ → ℕ → A → List A → List A
+opened from to q r v xs =
+    set (cond (leb to from) (moved (moved xs to from q) (to + q + 1) (from + q) r) (moved (moved xs (to + q + 1) (from + q) r) to from q)) (to + q) v
+
+-- where the rows start with one more at rank q: the nearer end moves by one; where that end has no room, all go to the other end of the memory
+unfoldable pub startWith : FeeHistory → ℕ → ℕ
+startWith s q =
+    cond (ltb q (s .count - q))
+    (cond (eqb (s .start) 0) (s .analog .capacity - s .count - 1) (s .start - 1))
+    (cond (eqb (s .start + s .count) (s .analog .capacity)) 0 (s .start))
+
+-- a state with the lists of its rows
+pub record Stored : Type 0 where
+  pub state : FeeHistory
+  pub rows : Rows
+
+abbrev pub stored : FeeHistory → Rows → Stored
+stored s m = record { state = s; rows = m }
+
+-- in each list a value put in at rank q of the held rows
+abbrev pub openedAt : ℕ → FeeHistory → ℕ → List ℕ → List ℕ
+openedAt q s v xs = opened (s .start) (startWith s q) q (s .count - q) v xs
+
+-- `blocks.insert`, at rank q, and the total
+unfoldable pub holdAt : ℕ → ℕ → HistoricalFeeBlock → Stored → Stored
+holdAt q h b x =
+    let s = x .state in
+    let m = x .rows in
+    stored (withRows (startWith s q) (s .count + 1) (withSums (s .analog) (saturatingAdd (s .«txstat_bytes») (b .«txstat_bytes»)) s))
+    (rows (openedAt q s h (m .heights)) (openedAt q s (markOf (hurdleOf b)) (m .marks)) (openedAt q s (numberOf (hurdleOf b)) (m .rates)) (openedAt q s (b .«txstat_bytes») (m .sizes)))
+
+-- there is room for one row more, at rank q, in lists that reach the capacity
+pub record Roomy (q : ℕ) (s : FeeHistory) (h m r z : ℕ) : Type 0 where
+  pub within : s .start + s .count ≤ s .analog .capacity
+  pub room : s .count < s .analog .capacity
+  pub small : s .analog .capacity ≤ 65536
+  pub rank : q ≤ s .count
+  pub heights : s .analog .capacity ≤ h
+  pub marks : s .analog .capacity ≤ m
+  pub rates : s .analog .capacity ≤ r
+  pub sizes : s .analog .capacity ≤ z

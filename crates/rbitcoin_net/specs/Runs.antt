@@ -1,0 +1,51 @@
+-- A run of calls, each on what the one before left. Definitions only.
+use Prim.Native.Nat.{ℕ, _^_, _<_}
+use mathlib.Core.Bool.{cond}
+use mathlib.Core.List.{List, [], _∷_}
+use mathlib.Core.Option.{Option}
+use lib.Dec.{eqb}
+use Rattle.rbitcoin_net.specs.Map.{below, containsKey, insert}
+use Rattle.rbitcoin_net.specs.Lent.{view}
+use Rattle.rbitcoin_net.specs.Hashes.{Whole32}
+use Rattle.rbitcoin_net.specs.Cuts.{truncateIn, truncateRefusalOf}
+use Rattle.rbitcoin_net.specs.Inserts.{Whole, whole, insertRefusal, insertIn, insertIfAbsentRefusal, insertIfAbsentIn}
+use Rattle.rbitcoin_net.specs.Sums.{sumOf}
+use Rattle.rbitcoin_net.specs.declared.fee_history.HistoricalFeeBlock.{HistoricalFeeBlock}
+
+pub data Call : Type 0 where
+  connect : ℕ → HistoricalFeeBlock → Option (List ℕ) → Call
+  preload : ℕ → HistoricalFeeBlock → Option (List ℕ) → Call
+  cut : ℕ → Call
+
+-- what a call leaves, refused or not: the equation of its contract
+unfoldable pub callIn : Call → Whole → Whole
+callIn (connect h b z) x = cond (eqb (insertRefusal h (x .state) (x .memory)) 0) (insertIn h b z x) x
+callIn (preload h b z) x = cond (eqb (insertIfAbsentRefusal h (x .state) (x .memory)) 0) (insertIfAbsentIn h b z x) x
+callIn (cut h) x = cond (eqb (truncateRefusalOf (x .state) (x .memory .rows) (x .memory .hashes)) 0) (whole (truncateIn h (x .memory .rows) (x .memory .hashes) (x .state)) (x .memory)) x
+
+unfoldable pub runIn : List Call → Whole → Whole
+runIn [] x = x
+runIn (c ∷ cs) x = runIn cs (callIn c x)
+
+-- heights are u32, and a hash that is there has 32 bytes
+abbrev pub Given : Call → Type 0
+Given (connect h b z) = (h < 2 ^ 32) × Whole32 z
+Given (preload h b z) = (h < 2 ^ 32) × Whole32 z
+Given (cut h) = h < 2 ^ 32
+
+abbrev pub GivenAll : List Call → Type 0
+GivenAll [] = Unit
+GivenAll (c ∷ cs) = Given c × GivenAll cs
+
+-- the true sum at the moment before a call's eviction; 0 where nothing is put in
+unfoldable pub moment : Call → Whole → ℕ
+moment (connect h b z) x = cond (eqb (insertRefusal h (x .state) (x .memory)) 0) (sumOf (insert h b (below h (view (x .state) (x .memory) .blocks)))) 0
+moment (preload h b z) x =
+    cond (eqb (insertIfAbsentRefusal h (x .state) (x .memory)) 0)
+    (cond (containsKey h (view (x .state) (x .memory) .blocks)) 0 (sumOf (insert h b (view (x .state) (x .memory) .blocks)))) 0
+moment (cut h) x = 0
+
+-- "the true sum has fitted a u64 at every moment so far, the moment before each eviction included"
+abbrev pub SumsFit : List Call → Whole → Type 0
+SumsFit [] x = Unit
+SumsFit (c ∷ cs) x = (moment c x < 2 ^ 64) × SumsFit cs (callIn c x)

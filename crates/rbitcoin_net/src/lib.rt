@@ -1,0 +1,2 @@
+// The fee history of rbitcoin-net, above the estimator.
+pub mod fee_history;
