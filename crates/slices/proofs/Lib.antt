@@ -12,3 +12,4 @@ pub mod Parting
 pub mod Halves
 pub mod Least
 pub mod Runs
+pub mod Moving

@@ -1,16 +1,15 @@
--- `slices::moves::copy_front_u32` meets its contract. The loop's invariant: the first i elements are copied. Assumes nothing.
+-- `slices::moves::copy_front_u32` meets its contract. The loop's invariant is `Front`. Assumes nothing.
 use borrow.Author.Needs.{needs}
 use native.Mathlib.Omega.{arith}
-use mathlib.Core.Path.{_≡_, refl}
-use mathlib.Core.List.{_++_}
-use Prim.Native.Nat.{_-_, _≤_}
-use lib.ListN.{length, length-set, take, drop}
-use Rattle.slices.proofs.Runs.{front-turn, front-none, front-done}
+use Prim.Native.Nat.{_-_}
+use lib.ListN.{length}
+use Rattle.slices.proofs.Runs.{front-none}
+use Rattle.slices.proofs.Moving.{Front, front-start, front-next, front-end}
 use Rattle.slices.proofs.moves.copy_front_u32.Statement.{statement}
 use Rattle.slices.proofs.moves.copy_front_u32.Tie as tie
 
 abbrev Inv-loop : tie.InvT-loop
-Inv-loop xs₀ from i₀ xs i = (i ≤ length from) × (length xs ≡ length xs₀) × (xs ≡ take i from ++ drop i xs₀)
+Inv-loop xs₀ from i₀ xs i = Front xs₀ from xs i
 
 abbrev μ-loop : tie.MeasureT-loop
 μ-loop xs₀ from i₀ xs i = length from - i
@@ -19,7 +18,7 @@ returns : tie.Need-returns Inv-loop μ-loop
 returns c = let a = c .before .args in front-none (a .xs .now) (a .from .now) (c .if1 .taken)
 
 loop-holds : tie.Need-loop-holds Inv-loop μ-loop
-loop-holds c = (omega arith, refl, refl)
+loop-holds c = front-start
 
 mul-xs : tie.Need-mul-xs Inv-loop μ-loop
 mul-xs c = search needs
@@ -40,34 +39,13 @@ loop-less : tie.Need-loop-less Inv-loop μ-loop
 loop-less c = search needs
 
 loop-again : tie.Need-loop-again Inv-loop μ-loop
-loop-again c =
-    let l = c .before .before in
-    let a = l .before .before .args in
-    (omega arith, simp length-set (l .loop .inv .1), front-turn (a .xs .now) (a .from .now) (l .loop .xs) (l .loop .i) 0 (omega arith) (omega arith) (l .loop .inv .2))
+loop-again c = front-next 0 (c .before .before .loop .inv) (omega arith) (omega arith)
 
 same-length : tie.Need-same-length Inv-loop μ-loop
-same-length c = c .before .loop .inv .1
+same-length c = c .before .loop .inv .long
 
 returns-2 : tie.Need-returns-2 Inv-loop μ-loop
-returns-2 c =
-    let l = c .before in
-    let a = l .before .before .args in
-    front-done (a .xs .now) (a .from .now) (l .loop .xs) (l .loop .i) (omega arith) (omega arith) (l .loop .inv .2)
+returns-2 c = front-end (c .before .loop .inv) (omega arith) (omega arith)
 
 pub copy-front-u32-spec : {M : Type 1} → statement M
-copy-front-u32-spec =
-    tie.close
-    (tie.spec
-    Inv-loop
-    μ-loop
-    returns
-    loop-holds
-    mul-xs
-    shared-slice-read-xs
-    mul-xs-2
-    slice-write-xs
-    add-i
-    loop-less
-    loop-again
-    same-length
-    returns-2)
+copy-front-u32-spec = tie.close (tie.spec Inv-loop μ-loop returns loop-holds mul-xs shared-slice-read-xs mul-xs-2 slice-write-xs add-i loop-less loop-again same-length returns-2)
