@@ -114,7 +114,7 @@ module _ (s : AnalogHistory) (to : ℕ) where
   unfolding popped
   popped-some e n = sym (rw (eq-eqb (stateRefusal s) 0 e, ne-eqb (s .count) 0 n))
 
--- valid windows are accepted: with room by a push, with scratch of the capacity by a scan
+-- valid windows are accepted: with room by a push and by a rebuild, with scratch of the capacity by a scan
 module _ (s : AnalogHistory) (h b a : ℕ) (v : Valid s h b a) where
   pub valid-state : stateRefusal s ≡ 0
   unfolding stateRefusal
@@ -131,6 +131,10 @@ module _ (s : AnalogHistory) (h b a : ℕ) (v : Valid s h b a) where
   pub accepts : s .count < s .capacity → pushRefusal s h b a ≡ 0
   unfolding pushRefusal
   accepts r = or-else-second (lentRefusal s h b a) _ valid-lent ∙ rw (ne-eqb (s .count) (s .capacity) (λ e. omega arith))
+
+  pub rebuilds : (n : ℕ) → n ≤ s .capacity → rebuildRefusal n s h b a ≡ 0
+  unfolding rebuildRefusal
+  rebuilds n l = or-else-second (lentRefusal s h b a) _ valid-lent ∙ rw (le-ltb _ _ l)
 
   pub scans : (z : ℕ) → s .capacity ≤ z → scanRefusal s h b a z ≡ 0
   unfolding scanRefusal

@@ -104,7 +104,7 @@ module _ (m : Rows) (z : Hashes) (us : List ℕ) (bs : List Float) (ds : List �
     blocks = tabulate (rowAt m) (s .start) (s .count);
     total = total;
     budget = s .budget;
-    targets = take (e i) (d i);
+    targets = tabulate (λ k. getD (d i) k 0) 0 (e i);
     hashes = hashesIn (s .hashes) z;
     hurdles = h i;
     stale = s .«analog_stale»;

@@ -23,5 +23,7 @@ pub mod Connecting
 pub mod Preloads
 pub mod Preloading
 pub mod Full
+pub mod Rating
+pub mod Rates
 pub mod Sums
 pub mod Runs

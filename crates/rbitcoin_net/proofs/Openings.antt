@@ -6,11 +6,10 @@ use mathlib.Core.List.{List, [], _∷_, _++_}
 use mathlib.Core.Option.{none}
 use native.Mathlib.Omega.{arith}
 use lib.Dec.{eqb}
-use lib.ListN.{length, getD, take, drop}
-use lib.Seq.{take-at}
+use lib.ListN.{length, getD}
 use borrow.Author.Tests.{eq-eqb, ne-eqb}
 use Rattle.slices.specs.Lists.{tabulate}
-use Rattle.slices.proofs.Lists.{tabulate-is, tabulate-length}
+use Rattle.slices.proofs.Lists.{tabulate-at, tabulate-is, tabulate-same}
 use Rattle.rbitcoin_mempool.specs.declared.fee_analog.history.AnalogHistory.{AnalogHistory}
 use Rattle.rbitcoin_mempool.specs.Outcome.{Verdict, done, refused, verdictOf}
 use Rattle.rbitcoin_mempool.specs.Windows.{orElse, held, windows, Valid}
@@ -23,7 +22,6 @@ use Rattle.rbitcoin_net.specs.Lent.{Lent, view, heldRows, hashesIn, kept
 use Rattle.rbitcoin_net.specs.Openings.{freshOf, refusalIn, memoryRefusal, openRefusal, Opens}
 use Rattle.rbitcoin_net.specs.declared.fee_history.FeeHistory.{FeeHistory}
 use Rattle.rbitcoin_net.proofs.Refusals.{both-zero, parts-lent, state-taken}
-use Rattle.rbitcoin_net.proofs.Tables.{table-split}
 
 -- the windows' refusal, from their answer
 pub refusal-is : (k : ℕ) → refusalIn (verdictOf k) ≡ k
@@ -32,13 +30,11 @@ refusal-is zero = refl
 refusal-is (suc k) = refl
 
 -- the targets, padded to 16, and taken back
-padded-back : (targets : List ℕ) → length targets ≤ 16 → take (length targets) (tabulate (λ i. getD targets i 0) 0 16) ≡ targets
+padded-back : (targets : List ℕ) → length targets ≤ 16 → tabulate (λ d. getD (tabulate (λ i. getD targets i 0) 0 16) d 0) 0 (length targets) ≡ targets
 padded-back targets l =
     let g : ℕ → ℕ = λ i. getD targets i 0 in
     let n = length targets in
-    let e : n - 0 ≡ n = omega arith in
-    ap (take n) (table-split g 0 16 n (omega arith) (omega arith) ∙ ap (λ k. tabulate g 0 k ++ tabulate g n (0 + 16 - n)) e)
-    ∙ take-at (tabulate g 0 n) (tabulate g n (0 + 16 - n)) n (tabulate-length g 0 n)
+    tabulate-same (λ d. getD (tabulate g 0 16) d 0) g 0 n (λ k u v. tabulate-at g 0 16 k (omega arith))
     ∙ sym (tabulate-is g 0 n targets refl (λ k m. refl))
 
 module _ (budget : ℕ) (targets : List ℕ) (c : ℕ) (m : Lent) (z : openRefusal targets c m ≡ 0) where

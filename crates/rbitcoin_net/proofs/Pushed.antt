@@ -95,7 +95,7 @@ preload-same q n o stale w = go (eqb q n) (eqb q 0)
 
 -- ---- there is room, since unless stale the hurdles are rates of held rows
 
-hurdles-few : (es : List (Entry HistoricalFeeBlock)) → length (hurdlesOf es) ≤ length es
+pub hurdles-few : (es : List (Entry HistoricalFeeBlock)) → length (hurdlesOf es) ≤ length es
 unfolding hurdlesOf
 hurdles-few [] = omega arith
 hurdles-few (e ∷ es) = go (hurdleOf (e .value)) (hurdles-few es)

@@ -6,7 +6,7 @@ use mathlib.Core.Bool.{Bool, true, false, cond}
 use native.Mathlib.Omega.{arith}
 use lib.Dec.{ltb, eqb}
 use lib.ListN.{length}
-use borrow.Author.Tests.{lt-ltb, le-ltb, ltb-false, eq-eqb, ne-eqb}
+use borrow.Author.Tests.{lt-ltb, le-ltb, ltb-false, eq-eqb, ne-eqb, eqb-true}
 use Rattle.rbitcoin_mempool.specs.declared.fee_analog.history.AnalogHistory.{AnalogHistory}
 use Rattle.rbitcoin_mempool.specs.Windows.{orElse, Valid}
 use Rattle.rbitcoin_mempool.specs.Windows.{stateRefusal as windowsRefusal, sizeRefusal as windowsSizeRefusal, lentRefusal as windowsLentRefusal}
@@ -14,6 +14,7 @@ use Rattle.rbitcoin_mempool.proofs.Refusals.{then-second, or-else-first, or-els
 use Rattle.rbitcoin_mempool.proofs.Refusals.{sound as windows-sound, lent as windows-lent}
 use Rattle.rbitcoin_net.specs.Lent.{Rows, Hashes, Lent, stateRefusal, rowsRefusal, hashesRefusal, rowsRefusalOf, hashesRefusalOf, lentRefusal}
 use Rattle.rbitcoin_net.specs.Cuts.{truncateRefusal}
+use Rattle.rbitcoin_net.specs.Rates.{ratesRefusal}
 use Rattle.rbitcoin_net.specs.Readers.{entriesRefusal, recentRefusal}
 use Rattle.rbitcoin_net.specs.declared.fee_history.FeeHistory.{FeeHistory}
 
@@ -211,3 +212,42 @@ serves-lent s m v =
 pub windows-taken : (s : FeeHistory) (n : ℕ) → orElse (stateRefusal s) n ≡ 0 → windowsRefusal (s .analog) ≡ 0
 unfolding stateRefusal
 windows-taken s n e = both-zero (windowsRefusal (s .analog)) _ (both-zero (stateRefusal s) n e .0) .0
+
+-- `rates`: after the output lists and the rows; and what it leaves where it refuses nothing
+module _ (s : FeeHistory) (h m r z u b a x n o : ℕ) where
+  pub rates-from : (q k : ℕ) → n ≡ o → q ≡ orElse (stateRefusal s) (rowsRefusal (s .analog .capacity) h m r z) → q ≡ 0 → k ≡ orElse (windowsSizeRefusal (s .analog) u b a) (cond (ltb x (s .analog .capacity)) 5 (cond (ltb n (s .analog .tracked)) 5 0)) → k ≡ ratesRefusal s h m r z u b a x n o
+  unfolding ratesRefusal
+  rates-from q k same e t d = then-second (cond (eqb n o) 0 1) _ 0 k (sym (rw (eq-eqb n o same))) refl (then-second _ _ q k e t d)
+
+  pub record RatesFit : Type 0 where
+    pub state : stateRefusal s ≡ 0
+    pub rows : Reach (s .start + s .count) h m r z
+    pub windows : Valid (s .analog) u b a
+    pub scratch : s .analog .capacity ≤ x
+    pub numbers : s .analog .tracked ≤ n
+    pub marks : s .analog .tracked ≤ o
+
+  same-outputs : (c : Bool) → eqb n o ≡ c → _≡_ {A = ℕ} (cond c 0 1) 0 → n ≡ o
+  same-outputs true e d = eqb-true n o e
+  same-outputs false e d = absurd (let f : ⊥ = omega arith in f)
+
+  pub rates-fit : ratesRefusal s h m r z u b a x n o ≡ 0 → RatesFit
+  unfolding ratesRefusal windowsLentRefusal stateRefusal
+  rates-fit e =
+      let y = both-zero (cond (eqb n o) 0 1) _ e in
+      let l = both-zero _ _ (y .1) in
+      let w = both-zero _ _ (l .1) in
+      let t = both-zero _ _ (l .0) in
+      let c = passed _ _ (w .1) in
+      let d = passed _ _ (c .1) in
+      let k : n ≡ o = same-outputs (eqb n o) refl (y .0) in
+      let f : s .analog .tracked ≤ n = ltb-false _ _ (d .0) in
+      let v = both-zero (windowsRefusal (s .analog)) _ (t .0) .0 in
+      record {
+        state = t .0;
+        rows = rows-lent s h m r z (l .0);
+        windows = windows-lent (s .analog) _ _ _ (or-else-second (windowsRefusal (s .analog)) _ v ∙ w .0);
+        scratch = ltb-false _ _ (c .0);
+        numbers = f;
+        marks = omega arith;
+      }

@@ -18,12 +18,15 @@ use Rattle.rbitcoin_net.specs.Cuts.{truncateIn, truncateRefusalOf}
 use Rattle.rbitcoin_net.specs.Inserts.{Whole, whole, insertRefusal, insertIn, insertIfAbsentRefusal, insertIfAbsentIn}
 use Rattle.rbitcoin_net.specs.Openings.{freshOf, openRefusal}
 use Rattle.rbitcoin_net.specs.Sums.{sumOf, Exact}
-use Rattle.rbitcoin_net.specs.Runs.{Call, connect, preload, cut, callIn, runIn, Given, GivenAll, moment, SumsFit}
+use Rattle.rbitcoin_net.specs.Runs.{Call, connect, preload, cut, ask, other, ratedOf, wholeOf, callIn, runIn, Given, GivenAll, moment, SumsFit}
 use Rattle.rbitcoin_net.proofs.CutSound.{cut-sound, cut-means}
 use Rattle.rbitcoin_net.proofs.Connects.{insert-sound, insert-means}
 use Rattle.rbitcoin_net.proofs.Preloads.{both}
+use Rattle.rbitcoin_net.proofs.Rates.{rates-means, rates-sound}
+use Rattle.rbitcoin_net.proofs.Refusals.{rates-fit}
+use Rattle.rbitcoin_net.specs.Rates.{ratesRefusalOf, ratesIn}
 use Rattle.rbitcoin_net.proofs.Openings.{open-view, open-sound}
-use Rattle.rbitcoin_net.proofs.Sums.{truncate-exact, insert-exact, preload-exact, new-exact}
+use Rattle.rbitcoin_net.proofs.Sums.{truncate-exact, insert-exact, preload-exact, rates-exact, new-exact}
 use Rattle.rbitcoin_net.specs.History.{next}
 
 -- a state with its memory is sound, and its kept total is the true sum
@@ -77,6 +80,14 @@ module _ (x : Whole) (k : SoundAt x) where
         exact = λ l e. subst Exact (sym v) (truncate-exact h (view s m) e);
       }
 
+  ask-keeps : (z n o : ℕ) → ratesRefusalOf (m .rows) (ratedOf x) z n o ≡ 0 → Keeps x 0 (wholeOf m (ratesIn z (m .rows) (ratedOf x)))
+  ask-keeps z n o t =
+      let f = rates-fit s _ _ _ _ _ _ _ _ _ _ t .scratch in
+      record {
+        sound = rates-sound (m .rows) (m .hashes) (ratedOf x) k z;
+        exact = λ l e. subst Exact (sym (rates-means (m .rows) (m .hashes) (ratedOf x) k z f)) (rates-exact (view s m) e);
+      }
+
   call-keeps : (c : Call) → Given c → Keeps x (moment c x) (callIn c x)
   unfolding callIn moment
   call-keeps (connect h b z) g = go (eqb (insertRefusal h s m) 0) refl
@@ -94,6 +105,12 @@ module _ (x : Whole) (k : SoundAt x) where
       go : (a : Bool) → Keeps x 0 (cond a (whole (truncateIn h (m .rows) (m .hashes) s) m) x)
       go true = cut-keeps h
       go false = unchanged x 0 k
+  call-keeps (ask z n o) g = go (eqb (ratesRefusalOf (m .rows) (ratedOf x) z n o) 0) refl
+    where
+      go : (a : Bool) → eqb (ratesRefusalOf (m .rows) (ratedOf x) z n o) 0 ≡ a → Keeps x 0 (cond a (wholeOf m (ratesIn z (m .rows) (ratedOf x))) x)
+      go true e = ask-keeps z n o (eqb-true (ratesRefusalOf (m .rows) (ratedOf x) z n o) 0 e)
+      go false e = unchanged x 0 k
+  call-keeps other g = unchanged x 0 k
 
 pub run-sound : (cs : List Call) (x : Whole) → SoundAt x → GivenAll cs → SoundAt (runIn cs x)
 unfolding runIn

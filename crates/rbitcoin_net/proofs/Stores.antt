@@ -6,7 +6,7 @@ use mathlib.Core.List.{List, [], _∷_, _++_}
 use mathlib.Core.Option.{Option, none, some}
 use native.Mathlib.Omega.{arith}
 use lib.Ieee.{Float}
-use lib.ListN.{length, take}
+use lib.ListN.{length, getD}
 use Rattle.num.specs.Word.{saturatingAdd}
 use Rattle.slices.specs.Lists.{tabulate}
 use Rattle.rbitcoin_mempool.specs.Rates.{rateAt, markOf, numberOf}
@@ -101,7 +101,7 @@ module _ (q h : ℕ) (b : HistoricalFeeBlock) (m : Rows) (z : Hashes) (us : List
     blocks = rows-after i;
     total = saturatingAdd (s .«txstat_bytes») (b .«txstat_bytes»);
     budget = s .budget;
-    targets = take (f .tracked i) (f .targets i);
+    targets = tabulate (λ k. getD (f .targets i) k 0) 0 (f .tracked i);
     hashes = heldHashes z s;
     hurdles = heldIn w;
     stale = stale;

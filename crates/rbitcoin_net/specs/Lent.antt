@@ -6,12 +6,12 @@ use mathlib.Core.List.{List}
 use mathlib.Core.Option.{Option, none, some}
 use lib.Dec.{leb, ltb, eqb}
 use lib.Ieee.{Float}
-use lib.ListN.{length, getD, take, drop}
+use lib.ListN.{length, getD}
 use Rattle.slices.specs.Lists.{tabulate}
 use Rattle.rbitcoin_mempool.specs.declared.answer.Rate.{Rate}
 use Rattle.rbitcoin_mempool.specs.declared.answer.Rate.the-variants.{There, Missing}
 use Rattle.rbitcoin_mempool.specs.Rates.{rateAt}
-use Rattle.rbitcoin_mempool.specs.Windows.{Windows, windows, heldIn, orElse, WellStored}
+use Rattle.rbitcoin_mempool.specs.Windows.{Windows, windows, heldIn, targetAt, orElse, WellStored}
 use Rattle.rbitcoin_mempool.specs.Windows.{stateRefusal as windowsRefusal, sizeRefusal as windowsSizeRefusal}
 use Rattle.rbitcoin_net.specs.Map.{Entry, entry, Ascends}
 use Rattle.rbitcoin_net.specs.History.{History, hurdlesOf}
@@ -84,7 +84,7 @@ view s m = record {
   blocks = heldRows (m .rows) s;
   total = s .«txstat_bytes»;
   budget = s .budget;
-  targets = take (s .analog .tracked) (s .analog .targets);
+  targets = tabulate (targetAt (s .analog)) 0 (s .analog .tracked);
   hashes = heldHashes (m .hashes) s;
   hurdles = heldIn (windowsOf s m);
   stale = s .«analog_stale»;

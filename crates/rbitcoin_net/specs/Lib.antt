@@ -10,5 +10,6 @@ pub mod Evictions
 pub mod Rooms
 pub mod Openings
 pub mod Inserts
+pub mod Rates
 pub mod Sums
 pub mod Runs

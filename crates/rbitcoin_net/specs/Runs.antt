@@ -5,10 +5,11 @@ use mathlib.Core.List.{List, [], _∷_}
 use mathlib.Core.Option.{Option}
 use lib.Dec.{eqb}
 use Rattle.rbitcoin_net.specs.Map.{below, containsKey, insert}
-use Rattle.rbitcoin_net.specs.Lent.{view}
+use Rattle.rbitcoin_net.specs.Lent.{Lent, view}
 use Rattle.rbitcoin_net.specs.Hashes.{Whole32}
 use Rattle.rbitcoin_net.specs.Cuts.{truncateIn, truncateRefusalOf}
 use Rattle.rbitcoin_net.specs.Inserts.{Whole, whole, insertRefusal, insertIn, insertIfAbsentRefusal, insertIfAbsentIn}
+use Rattle.rbitcoin_net.specs.Rates.{Rated, rated, lentTo, ratesRefusalOf, ratesIn}
 use Rattle.rbitcoin_net.specs.Sums.{sumOf}
 use Rattle.rbitcoin_net.specs.declared.fee_history.HistoricalFeeBlock.{HistoricalFeeBlock}
 
@@ -16,12 +17,25 @@ pub data Call : Type 0 where
   connect : ℕ → HistoricalFeeBlock → Option (List ℕ) → Call
   preload : ℕ → HistoricalFeeBlock → Option (List ℕ) → Call
   cut : ℕ → Call
+  -- `rates`, with so many places of scratch, of output numbers and of marks
+  ask : ℕ → ℕ → ℕ → Call
+  -- `get`, `entries` or `recent_hashes`; or any call to which other memory was lent, too short, so that it was refused
+  other : Call
+
+-- the parts that `rates` changes, and all with them
+abbrev pub ratedOf : Whole → Rated
+ratedOf x = rated (x .state) (x .memory .hurdles) (x .memory .befores) (x .memory .aheads)
+
+abbrev pub wholeOf : Lent → Rated → Whole
+wholeOf m x = whole (x .state) (lentTo (m .rows) (m .hashes) x)
 
 -- what a call leaves, refused or not: the equation of its contract
 unfoldable pub callIn : Call → Whole → Whole
 callIn (connect h b z) x = cond (eqb (insertRefusal h (x .state) (x .memory)) 0) (insertIn h b z x) x
 callIn (preload h b z) x = cond (eqb (insertIfAbsentRefusal h (x .state) (x .memory)) 0) (insertIfAbsentIn h b z x) x
 callIn (cut h) x = cond (eqb (truncateRefusalOf (x .state) (x .memory .rows) (x .memory .hashes)) 0) (whole (truncateIn h (x .memory .rows) (x .memory .hashes) (x .state)) (x .memory)) x
+callIn (ask z n o) x = cond (eqb (ratesRefusalOf (x .memory .rows) (ratedOf x) z n o) 0) (wholeOf (x .memory) (ratesIn z (x .memory .rows) (ratedOf x))) x
+callIn other x = x
 
 unfoldable pub runIn : List Call → Whole → Whole
 runIn [] x = x
@@ -32,6 +46,8 @@ abbrev pub Given : Call → Type 0
 Given (connect h b z) = (h < 2 ^ 32) × Whole32 z
 Given (preload h b z) = (h < 2 ^ 32) × Whole32 z
 Given (cut h) = h < 2 ^ 32
+Given (ask z n o) = Unit
+Given other = Unit
 
 abbrev pub GivenAll : List Call → Type 0
 GivenAll [] = Unit
@@ -44,6 +60,8 @@ moment (preload h b z) x =
     cond (eqb (insertIfAbsentRefusal h (x .state) (x .memory)) 0)
     (cond (containsKey h (view (x .state) (x .memory) .blocks)) 0 (sumOf (insert h b (view (x .state) (x .memory) .blocks)))) 0
 moment (cut h) x = 0
+moment (ask z n o) x = 0
+moment other x = 0
 
 -- "the true sum has fitted a u64 at every moment so far, the moment before each eviction included"
 abbrev pub SumsFit : List Call → Whole → Type 0

@@ -9,6 +9,7 @@ ghost use Rattle.rbitcoin_net.specs.Hashes.{hashOf};
 ghost use Rattle.rbitcoin_net.specs.Inserts.{whole, Inserts, InsertsIfAbsent};
 ghost use Rattle.rbitcoin_net.specs.Lent.{rows, hashes, lent};
 ghost use Rattle.rbitcoin_net.specs.Openings.{Opens};
+ghost use Rattle.rbitcoin_net.specs.Rates.{rated, outputs, AnswersRates};
 ghost use Rattle.rbitcoin_net.specs.Readers.{Entries, RecentHashes};
 ghost use Rattle.rbitcoin_net.specs.Search.{looked, Gets};
 
@@ -17,6 +18,7 @@ mod evict;
 mod hashes;
 mod inserts;
 mod open;
+mod rates;
 mod readers;
 mod refusals;
 mod rooms;
@@ -29,6 +31,8 @@ use open::fresh;
 use open::memory_refusal;
 use open::refusal_in;
 use open::unopened;
+use rates::answered;
+use rates::put_answers;
 use rbitcoin_mempool::answer::CountAnswer;
 use rbitcoin_mempool::answer::Outcome;
 use rbitcoin_mempool::answer::Rate;
@@ -37,6 +41,7 @@ use readers::put_marks;
 use readers::put_rates;
 use refusals::entries_refusal;
 use refusals::lent_refusal;
+use refusals::rates_refusal;
 use refusals::recent_refusal;
 use refusals::rows_refusal;
 use refusals::truncate_refusal;
@@ -292,6 +297,50 @@ impl FeeHistory {
         HistoryUpdate {
             outcome: Outcome::Done,
             state: truncate(self, height, heights, marks, sizes, hash_heights),
+        }
+    }
+
+    // The rate of each tracked target, in tracked order, at the front of the caller's lists: 1 block at 0.999, farther at
+    // 0.95. A scan that finds a rate leaves `scratch` open.
+    pub fn rates(
+        self,
+        heights: &[u32],
+        marks: &[u8],
+        rates: &[u64],
+        sizes: &[u64],
+        hurdles: &mut [u64],
+        befores: &mut [f64],
+        aheads: &mut [u64],
+        scratch: &mut [u64],
+        out_numbers: &mut [u64],
+        out_marks: &mut [u8],
+    ) -> HistoryUpdate
+        ensures { λ r. ⌜ AnswersRates (rows (now (heights .entry)) (now (marks .entry)) (now (rates .entry)) (now (sizes .entry))) (rated self (now (hurdles .entry)) (now (befores .entry)) (now (aheads .entry))) (outputs (now (scratch .entry)) (now («out_numbers» .entry)) (now («out_marks» .entry))) (verdict (r .outcome)) (rated (r .state) (now (hurdles .exit)) (now (befores .exit)) (now (aheads .exit))) (outputs (now (scratch .exit)) (now («out_numbers» .exit)) (now («out_marks» .exit))) ⌝ }
+    {
+        let refusal = rates_refusal(
+            self,
+            heights.len(),
+            marks.len(),
+            rates.len(),
+            sizes.len(),
+            hurdles.len(),
+            befores.len(),
+            aheads.len(),
+            scratch.len(),
+            out_numbers.len(),
+            out_marks.len(),
+        );
+        if refusal != 0 {
+            return HistoryUpdate {
+                outcome: Outcome::Refused(refusal),
+                state: self,
+            };
+        }
+        let state = answered(self, marks, rates, hurdles, befores, aheads, scratch);
+        put_answers(state, out_numbers, out_marks);
+        HistoryUpdate {
+            outcome: Outcome::Done,
+            state,
         }
     }
 

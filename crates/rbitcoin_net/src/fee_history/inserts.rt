@@ -26,7 +26,7 @@ use rbitcoin_mempool::answer::Rate;
 use rbitcoin_mempool::fee_analog::AnalogHistory;
 
 // A rate that is there goes behind the hurdles, unless they are stale.
-fn push_newest(
+pub(crate) fn push_newest(
     analog: AnalogHistory,
     stale: bool,
     rate: Rate,

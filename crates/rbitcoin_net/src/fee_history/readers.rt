@@ -8,14 +8,14 @@ ghost use lib.ListN.{length, getD, drop};
 ghost use Rattle.slices.specs.Lists.{tabulate};
 
 // A stored mark as an answer's: 1 where it is 1, and 0.
-fn mark_of(mark: u8) -> u8
+pub(crate) fn mark_of(mark: u8) -> u8
     ensures { λ r. ⌜ r ≡ cond (eqb mark 1) 1 0 ⌝ }
 {
     if mark == 1 { 1 } else { 0 }
 }
 
 // A stored number as an answer's: 0 where its mark is not 1.
-fn number_of(mark: u8, number: u64) -> u64
+pub(crate) fn number_of(mark: u8, number: u64) -> u64
     ensures { λ r. ⌜ r ≡ cond (eqb mark 1) number 0 ⌝ }
 {
     if mark == 1 { number } else { 0 }

@@ -5,6 +5,7 @@ ghost use Rattle.rbitcoin_mempool.specs.Windows.{stateRefusal as windowsRefusal
 ghost use Rattle.rbitcoin_net.specs.Lent.{stateRefusal, rowsRefusal, hashesRefusal};
 ghost use Rattle.rbitcoin_net.specs.Cuts.{truncateRefusal};
 ghost use Rattle.rbitcoin_net.specs.Inserts.{sizesRefusal};
+ghost use Rattle.rbitcoin_net.specs.Rates.{ratesRefusal};
 ghost use Rattle.rbitcoin_net.specs.Readers.{entriesRefusal, recentRefusal};
 use super::FeeHistory;
 use super::RECENT_HASHES;
@@ -207,4 +208,41 @@ pub(crate) fn lent_refusal(
     }
     let analog = s.analog;
     windows_size_refusal(analog, u, b, a)
+}
+
+// `rates`: the lengths of the rows, of the windows' memory, of the scratch, and of the output lists.
+pub(crate) fn rates_refusal(
+    s: FeeHistory,
+    h: usize,
+    m: usize,
+    r: usize,
+    z: usize,
+    u: usize,
+    b: usize,
+    a: usize,
+    x: usize,
+    to_n: usize,
+    to_m: usize,
+) -> u8
+    ensures { λ n. ⌜ n ≡ ratesRefusal s h m r z u b a x «to_n» «to_m» ⌝ }
+{
+    if to_n != to_m {
+        return 1;
+    }
+    let of_rows = rows_refusal(s, h, m, r, z);
+    if of_rows != 0 {
+        return of_rows;
+    }
+    let analog = s.analog;
+    let of_windows = windows_size_refusal(analog, u, b, a);
+    if of_windows != 0 {
+        return of_windows;
+    }
+    if x < analog.capacity {
+        return 5;
+    }
+    if to_n < analog.tracked {
+        return 5;
+    }
+    0
 }

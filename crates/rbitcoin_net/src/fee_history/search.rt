@@ -40,7 +40,7 @@ pub(crate) fn is_at(heights: &[u32], end: usize, place: usize, height: u32) -> b
     }
 }
 
-fn rate_of(mark: u8, number: u64) -> Rate
+pub(crate) fn rate_of(mark: u8, number: u64) -> Rate
     ensures { λ r. ⌜ r ≡ rateOf mark number ⌝ }
 {
     if mark == 1 {
