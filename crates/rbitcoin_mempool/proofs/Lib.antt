@@ -1,5 +1,6 @@
 -- Laws that belong to no one function.
 pub mod Edges
+pub mod Decade
 pub mod Capacity
 pub mod Percentile
 pub mod Search

@@ -2,6 +2,7 @@
 pub mod Answer
 pub mod Rates
 pub mod Edges
+pub mod Decade
 pub mod Capacity
 pub mod Percentile
 pub mod Depths

@@ -1,5 +1,6 @@
 // Flow-aware fee projection, after fee_est.rs.
 mod capacity;
+mod decade;
 mod depths;
 mod edges;
 mod hold;

@@ -4,11 +4,9 @@ ghost use mathlib.Core.Bool.{cond};
 ghost use Prim.Native.Nat.{min};
 ghost use lib.ListN.{length};
 ghost use Rattle.rbitcoin_mempool.specs.Answer.{answer};
-ghost use Rattle.rbitcoin_mempool.specs.Edges.{flowBucketEdges};
 ghost use Rattle.rbitcoin_mempool.specs.Capacity.{capacityWu, horizonSecs, inflowHorizonSecs, inclusionConfidence, effectiveCapacityWu, inflowSuffixWu, stressedWu, fitsWith, leastFitting, minRateForCapacity};
 use super::edges::bucket_count;
-use super::edges::first_bucket_in;
-use super::edges::flow_bucket_edges;
+use super::edges::first_bucket_above;
 use crate::answer::RateAnswer;
 
 // Consensus block weight (WU), the capacity of one block.
@@ -110,18 +108,11 @@ fn stressed_wu(n_blocks: u32, sum: u64) -> u64
     num::float::to_u64(wu)
 }
 
-// Whether a candidate fits with its stock, the table and the suffix sums being at hand.
-fn fits_with(
-    edges: &[u64; 401],
-    suffix: &[u64; 403],
-    n_blocks: u32,
-    candidate: u64,
-    stock: u64,
-) -> bool
-    requires { ⌜ now edges ≡ flowBucketEdges ⌝ }
+// Whether a candidate fits with its stock, the suffix sums being at hand.
+fn fits_with(suffix: &[u64; 403], n_blocks: u32, candidate: u64, stock: u64) -> bool
     ensures { λ r. ⌜ r ≡ fitsWith (now (suffix .entry)) «n_blocks» candidate stock ⌝ }
 {
-    let i = first_bucket_in(edges, candidate);
+    let i = first_bucket_above(candidate);
     let wu = stressed_wu(n_blocks, suffix[i]);
     num::word::saturating_add(stock, wu) <= effective_capacity_wu(n_blocks)
 }
@@ -139,12 +130,10 @@ fn lesser_rate(found: bool, best: u64, candidate: u64) -> u64
 fn least_fitting(
     candidates: &[u64],
     stock: &[u64],
-    edges: &[u64; 401],
     suffix: &[u64; 403],
     n_blocks: u32,
 ) -> RateAnswer
     requires { ⌜ length (now candidates) ≡ length (now stock) ⌝ }
-    requires { ⌜ now edges ≡ flowBucketEdges ⌝ }
     ensures { λ r. ⌜ answer r ≡ leastFitting (fitsWith (now (suffix .entry)) «n_blocks») (now (candidates .entry)) (now (stock .entry)) ⌝ }
 {
     let mut found = false;
@@ -153,7 +142,7 @@ fn least_fitting(
     while i > 0 {
         i -= 1;
         let candidate = candidates[i];
-        if fits_with(edges, suffix, n_blocks, candidate, stock[i]) {
+        if fits_with(suffix, n_blocks, candidate, stock[i]) {
             best = lesser_rate(found, best, candidate);
             found = true;
         }
@@ -177,7 +166,6 @@ pub fn min_rate_for_capacity(
     if candidate_rates.len() != stock_above_wu.len() {
         return RateAnswer::Refused(1);
     }
-    let edges = flow_bucket_edges();
     let suffix = inflow_suffix_wu(inflow_wu_per_s_by_bucket, inflow_horizon_secs(n_blocks));
-    least_fitting(candidate_rates, stock_above_wu, &edges, &suffix, n_blocks)
+    least_fitting(candidate_rates, stock_above_wu, &suffix, n_blocks)
 }

@@ -1,7 +1,8 @@
 // The bucket edges, a table whose rule is `flow_bucket_edges`'s series, and the search in it.
 // Contracts cite the rule, never the table.
 ghost use mathlib.Core.Path.{_≡_};
-ghost use Rattle.rbitcoin_mempool.specs.Edges.{flowBucketEdges, firstAbove, bucketIndex, firstBucketAbove};
+ghost use Rattle.rbitcoin_mempool.specs.Edges.{flowBucketEdges, bucketIndex, firstBucketAbove};
+use super::decade::first_above;
 
 pub const FLOW_BUCKETS_PER_DECADE: usize = 100;
 
@@ -414,6 +415,8 @@ pub const FEE_BUCKET_EDGES_SAT_PER_KVB: [u64; 401] = [
     1000000,
 ];
 
+const LAST_EDGE: u64 = 1_000_000;
+
 // The table.
 pub fn flow_bucket_edges() -> [u64; 401]
     ensures { λ r. ⌜ r ≡ flowBucketEdges ⌝ }
@@ -421,42 +424,16 @@ pub fn flow_bucket_edges() -> [u64; 401]
     FEE_BUCKET_EDGES_SAT_PER_KVB
 }
 
-// How many edges are at or below a rate, by halving: those below lo are, and those from hi on are not.
-pub(crate) fn first_above(edges: &[u64; 401], rate: u64) -> usize
-    requires { ⌜ now edges ≡ flowBucketEdges ⌝ }
-    ensures { λ r. ⌜ r ≡ firstAbove rate ⌝ }
-{
-    let mut lo: usize = 0;
-    let mut hi: usize = 401;
-    while lo < hi {
-        let mid = (lo + hi) / 2;
-        if edges[mid] <= rate {
-            lo = mid + 1;
-        } else {
-            hi = mid;
-        }
-    }
-    lo
-}
-
 // The bucket of a rate. A rate below the first edge shares the first bucket; one above the last is
 // in the open bucket, 401.
 pub fn bucket_index(rate_sat_per_kvb: u64) -> usize
     ensures { λ r. ⌜ r ≡ bucketIndex «rate_sat_per_kvb» ⌝ }
 {
-    let edges = flow_bucket_edges();
-    bucket_in(&edges, rate_sat_per_kvb)
-}
-
-fn bucket_in(edges: &[u64; 401], rate: u64) -> usize
-    requires { ⌜ now edges ≡ flowBucketEdges ⌝ }
-    ensures { λ r. ⌜ r ≡ bucketIndex rate ⌝ }
-{
-    let at_or_below = first_above(edges, rate);
+    let at_or_below = first_above(rate_sat_per_kvb);
     if at_or_below == 0 {
         return 0;
     }
-    if rate > edges[400] {
+    if rate_sat_per_kvb > LAST_EDGE {
         return 401;
     }
     at_or_below - 1
@@ -473,20 +450,12 @@ pub fn bucket_count() -> usize
 pub fn first_bucket_above(rate_sat_per_kvb: u64) -> usize
     ensures { λ r. ⌜ r ≡ firstBucketAbove «rate_sat_per_kvb» ⌝ }
 {
-    let edges = flow_bucket_edges();
-    first_bucket_in(&edges, rate_sat_per_kvb)
-}
-
-pub(crate) fn first_bucket_in(edges: &[u64; 401], rate: u64) -> usize
-    requires { ⌜ now edges ≡ flowBucketEdges ⌝ }
-    ensures { λ r. ⌜ r ≡ firstBucketAbove rate ⌝ }
-{
-    let i = first_above(edges, rate);
+    let i = first_above(rate_sat_per_kvb);
     if i < 401 {
         return i;
     }
-    let open_floor = num::word::saturating_add(edges[400], 1);
-    if rate < open_floor {
+    let open_floor = num::word::saturating_add(LAST_EDGE, 1);
+    if rate_sat_per_kvb < open_floor {
         return 401;
     }
     402

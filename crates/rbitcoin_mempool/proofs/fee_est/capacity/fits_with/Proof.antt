@@ -11,14 +11,14 @@ use borrow.Author.Needs.{needs}
 use Rattle.rbitcoin_mempool.proofs.fee_est.capacity.fits_with.Statement.{statement}
 use Rattle.rbitcoin_mempool.proofs.fee_est.capacity.fits_with.Tie as tie
 
-first-bucket-in-requires : tie.Need-first-bucket-in-requires
-first-bucket-in-requires c κs = search needs
+first-bucket-above-requires : tie.Need-first-bucket-above-requires
+first-bucket-above-requires c κs = search needs
 
 mul-stressed-wu : tie.Need-mul-stressed-wu
-mul-stressed-wu c = omega (arith, c .first-bucket-in .ensures, first-bucket-lt (c .before .args .candidate))
+mul-stressed-wu c = omega (arith, c .first-bucket-above .ensures, first-bucket-lt (c .before .args .candidate))
 
 element-copy-out-stressed-wu : tie.Need-element-copy-out-stressed-wu
-element-copy-out-stressed-wu c = omega (arith, c .first-bucket-in .ensures, first-bucket-lt (c .before .args .candidate))
+element-copy-out-stressed-wu c = omega (arith, c .first-bucket-above .ensures, first-bucket-lt (c .before .args .candidate))
 
 stressed-wu-requires : tie.Need-stressed-wu-requires
 stressed-wu-requires c κs = search needs
@@ -34,7 +34,7 @@ unfolding fitsWith
 returns c =
     let s = c .before .before .before .before in
     let a = s .before .args in
-    let w = c .before .before .stressed-wu .ensures ∙ ap (λ (i : ℕ). stressedWu (a .n-blocks) (getD (a .suffix .now) i 0)) (s .first-bucket-in .ensures) in
+    let w = c .before .before .stressed-wu .ensures ∙ ap (λ (i : ℕ). stressedWu (a .n-blocks) (getD (a .suffix .now) i 0)) (s .first-bucket-above .ensures) in
     ap (λ (n : ℕ). leb (c .before .saturating-add .result) n) (c .effective-capacity-wu .ensures)
     ∙ ap (λ (n : ℕ). leb n (effectiveCapacityWu (a .n-blocks))) (c .before .saturating-add .ensures ∙ ap (λ (n : ℕ). saturatingAdd (a .stock) n) w)
 
@@ -42,7 +42,7 @@ pub fits-with-spec : {M : Type 1} → statement M
 fits-with-spec =
     tie.close
     (tie.spec
-    first-bucket-in-requires
+    first-bucket-above-requires
     mul-stressed-wu
     element-copy-out-stressed-wu
     stressed-wu-requires

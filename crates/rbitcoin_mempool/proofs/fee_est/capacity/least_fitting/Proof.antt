@@ -12,15 +12,15 @@ use Rattle.rbitcoin_mempool.proofs.fee_est.capacity.least_fitting.State
 use Rattle.rbitcoin_mempool.proofs.fee_est.capacity.least_fitting.Tie as tie
 
 abbrev Inv-loop : tie.InvT-loop
-Inv-loop candidates stock edges suffix n-blocks found₀ best₀ i₀ found best i = (i ≤ length candidates) × (soFar found best ≡ leastFitting (fitsWith suffix n-blocks) (drop i candidates) (drop i stock))
+Inv-loop candidates stock suffix n-blocks found₀ best₀ i₀ found best i = (i ≤ length candidates) × (soFar found best ≡ leastFitting (fitsWith suffix n-blocks) (drop i candidates) (drop i stock))
 
 abbrev μ-loop : tie.MeasureT-loop
-μ-loop candidates stock edges suffix n-blocks found₀ best₀ i₀ found best i = i
+μ-loop candidates stock suffix n-blocks found₀ best₀ i₀ found best i = i
 
 loop-holds : tie.Need-loop-holds Inv-loop μ-loop
 loop-holds c =
     let s = c .before .before in
-    (omega arith, search-start (fitsWith (s .args .suffix .now) (s .args .n-blocks)) (s .args .candidates .now) (s .args .stock .now) (s .pre .0) 0)
+    (omega arith, search-start (fitsWith (s .args .suffix .now) (s .args .n-blocks)) (s .args .candidates .now) (s .args .stock .now) (s .pre) 0)
 
 sub-i : tie.Need-sub-i Inv-loop μ-loop
 sub-i c = search needs
@@ -55,7 +55,7 @@ loop-again c =
     let p = fitsWith (a .suffix .now) (a .n-blocks) in
     let q : i ≡ suc (i - 1) = omega arith in
     let v = subst (λ (n : ℕ). soFar (l .loop .found) (l .loop .best) ≡ leastFitting p (drop n (a .candidates .now)) (drop n (a .stock .now))) q (l .loop .inv .1) in
-    (omega arith, ap rate (c .lesser-rate .ensures) ∙ search-fits p (a .candidates .now) (a .stock .now) (l .before .before .before .pre .0) (i - 1) (omega arith) (l .loop .found) (l .loop .best) v (sym (t .fits-with .ensures) ∙ c .before .if1 .taken))
+    (omega arith, ap rate (c .lesser-rate .ensures) ∙ search-fits p (a .candidates .now) (a .stock .now) (l .before .before .before .pre) (i - 1) (omega arith) (l .loop .found) (l .loop .best) v (sym (t .fits-with .ensures) ∙ c .before .if1 .taken))
 
 loop-less-2 : tie.Need-loop-less-2 Inv-loop μ-loop
 loop-less-2 c = search needs
@@ -69,7 +69,7 @@ loop-again-2 c =
     let p = fitsWith (a .suffix .now) (a .n-blocks) in
     let q : i ≡ suc (i - 1) = omega arith in
     let v = subst (λ (n : ℕ). soFar (l .loop .found) (l .loop .best) ≡ leastFitting p (drop n (a .candidates .now)) (drop n (a .stock .now))) q (l .loop .inv .1) in
-    (omega arith, search-passes p (a .candidates .now) (a .stock .now) (l .before .before .before .pre .0) (i - 1) (omega arith) (l .loop .found) (l .loop .best) v (sym (t .fits-with .ensures) ∙ c .if1 .left))
+    (omega arith, search-passes p (a .candidates .now) (a .stock .now) (l .before .before .before .pre) (i - 1) (omega arith) (l .loop .found) (l .loop .best) v (sym (t .fits-with .ensures) ∙ c .if1 .left))
 
 returns : tie.Need-returns Inv-loop μ-loop
 returns c =

@@ -16,9 +16,6 @@ returns : tie.Need-returns
 unfolding minRateForCapacity
 returns c = rw (ne-eqb _ _ (c .if1 .taken))
 
-flow-bucket-edges-requires : tie.Need-flow-bucket-edges-requires
-flow-bucket-edges-requires c κs = search needs
-
 inflow-horizon-secs-requires : tie.Need-inflow-horizon-secs-requires
 inflow-horizon-secs-requires c κs = search needs
 
@@ -31,9 +28,9 @@ least-fitting-requires c κs = search needs
 returns-2 : tie.Need-returns-2
 unfolding minRateForCapacity fits
 returns-2 c =
-    let h = c .before .before .before in
-    let a = h .before .before .before .before .before .before .before .args in
-    let e : length (a .candidate-rates .now) ≡ length (a .stock-above-wu .now) = omega (arith, h .before .before .before .if1 .left) in
+    let h = c .before .before in
+    let a = h .before .before .before .before .before .before .args in
+    let e : length (a .candidate-rates .now) ≡ length (a .stock-above-wu .now) = omega (arith, h .before .before .if1 .left) in
     let t = h .inflow-suffix-wu .ensures ∙ ap (λ (z : ℕ). inflowSuffixWu (a .inflow-wu-per-s-by-bucket .now) z) (h .before .inflow-horizon-secs .ensures) in
     rw (eq-eqb _ _ e) (c .least-fitting .ensures ∙ ap (λ (z : List ℕ). leastFitting (fitsWith z (a .n-blocks)) (a .candidate-rates .now) (a .stock-above-wu .now)) t)
 
@@ -42,7 +39,6 @@ min-rate-for-capacity-spec =
     tie.close
     (tie.spec
     returns
-    flow-bucket-edges-requires
     inflow-horizon-secs-requires
     inflow-suffix-wu-requires
     least-fitting-requires
