@@ -1,6 +1,6 @@
 // The k-th smallest element of a lent list, found by value: nothing is stored and nothing moved.
 ghost use mathlib.Core.Path.{_≡_};
-ghost use Prim.Native.Nat.{_≤_, _<_, min};
+ghost use Prim.Native.Nat.{_≤_, _<_, min, max};
 ghost use lib.ListN.{length, getD, drop};
 ghost use Rattle.slices.specs.Sorted.{sorted, atMost, below, equal, Most};
 ghost use Rattle.slices.specs.Least.{leastOf};
@@ -21,10 +21,16 @@ pub fn count_at_most(xs: &[u64], v: u64) -> usize
     n
 }
 
-fn smaller(a: u64, b: u64) -> u64
+pub(crate) fn smaller(a: u64, b: u64) -> u64
     ensures { λ r. ⌜ r ≡ min a b ⌝ }
 {
     if a < b { a } else { b }
+}
+
+pub(crate) fn larger(a: u64, b: u64) -> u64
+    ensures { λ r. ⌜ r ≡ max a b ⌝ }
+{
+    if a < b { b } else { a }
 }
 
 // The least of m and the elements from place i on.
