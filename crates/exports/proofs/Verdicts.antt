@@ -1,10 +1,21 @@
--- A refusal's number through its verdict and back. Assumes nothing.
+-- Numbers of a refusal and of a count, through what they stand for and back. Assumes nothing.
 use Prim.Native.Nat.{ℕ, zero, suc}
-use mathlib.Core.Path.{_≡_, ap}
+use mathlib.Core.Path.{_≡_, ap, sym, _∙_}
 use Rattle.rbitcoin_mempool.specs.Outcome.{Verdict, verdictOf}
-use Rattle.exports.specs.Updates.{numberOf}
+use Rattle.rbitcoin_mempool.specs.Counted.{Counted, countedOf}
+use Rattle.exports.specs.Updates.{numberOf, countRefusal, countNumber}
 
 pub number-is : (k : ℕ) (v : Verdict) → v ≡ verdictOf k → numberOf v ≡ k
 unfolding verdictOf
 number-is zero v e = ap numberOf e
 number-is (suc k) v e = ap numberOf e
+
+-- the verdict of a verdict's number
+pub verdict-back : (k : ℕ) (v : Verdict) → v ≡ verdictOf k → v ≡ verdictOf (numberOf v)
+verdict-back k v e = e ∙ sym (ap verdictOf (number-is k v e))
+
+-- the count of a count's two numbers
+pub counted-back : (k n : ℕ) (a : Counted) → a ≡ countedOf k n → a ≡ countedOf (countRefusal a) (countNumber a)
+unfolding countedOf
+counted-back zero n a e = e ∙ sym (ap (λ x. countedOf (countRefusal x) (countNumber x)) e)
+counted-back (suc k) n a e = e ∙ sym (ap (λ x. countedOf (countRefusal x) (countNumber x)) e)

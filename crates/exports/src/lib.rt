@@ -3,6 +3,7 @@
 // slice passes as a pointer and a length, an array as a pointer.
 pub mod capacity;
 pub mod depths;
+pub mod history;
 pub mod meter;
 pub mod numbers;
 pub mod rate;

@@ -33,7 +33,7 @@ pub struct CountFields {
     pub count: usize,
 }
 
-fn number_of(o: Outcome) -> u8
+pub(crate) fn number_of(o: Outcome) -> u8
     ensures { λ r. ⌜ r ≡ numberOf (verdict o) ⌝ }
 {
     match o {
@@ -53,7 +53,7 @@ fn update_fields(u: Update) -> UpdateFields
     }
 }
 
-fn count_fields(a: CountAnswer) -> CountFields
+pub(crate) fn count_fields(a: CountAnswer) -> CountFields
     ensures { λ r. ⌜ (r .refusal ≡ countRefusal (counted a)) × (r .count ≡ countNumber (counted a)) ⌝ }
 {
     match a {

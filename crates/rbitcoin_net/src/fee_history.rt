@@ -60,6 +60,7 @@ pub struct HistoricalFeeBlock {
 }
 
 // A hash, or none.
+#[repr(C)]
 pub struct BlockHash {
     pub there: bool,
     pub bytes: [u8; 32],
@@ -67,6 +68,7 @@ pub struct BlockHash {
 
 // `count` rows from place `start` on, of the windows' capacity; `hashes` hashes from place 0 on; and while nothing has
 // changed since, the last answer of `rates`, numbers and marks.
+#[repr(C)]
 pub struct FeeHistory {
     pub analog: AnalogHistory,
     pub analog_stale: bool,
