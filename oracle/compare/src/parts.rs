@@ -2,6 +2,7 @@
 
 mod capacity;
 mod depths;
+mod history;
 mod meter;
 mod num;
 mod windows;
@@ -37,4 +38,5 @@ pub const PARTS: &[&dyn Part] = &[
     &meter::FeeFlow,
     &windows::PairWindows,
     &depths::Depths,
+    &history::HeldBlocks,
 ];

@@ -3,8 +3,8 @@
 //! reads, left every element of the lent lists. Where the Rust would panic or has no such case, the
 //! expected answer is document 01's refusal.
 
-mod inputs;
-mod rattle;
+pub(super) mod inputs;
+pub(super) mod rattle;
 mod replayed;
 mod sides;
 mod timing;

@@ -1,0 +1,2 @@
+use crate::bench::Bench;
+pub fn rows(_: &mut Bench) {}
