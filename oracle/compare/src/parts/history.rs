@@ -18,8 +18,8 @@ use crate::rng::Rng;
 use crate::words::{Word, Words};
 use inputs::Story;
 use sides::{
-    After, Call, Case, Opening, Pairs, Patched, Port, Reply, Rust, Side, State, Step, Upstream, run,
-    run_pairs,
+    After, Call, Case, Opening, Pairs, Patched, Port, Reply, Rust, Side, State, Step, Upstream,
+    last_pairs, run,
 };
 
 /// Up to 79 calls on a small history, which is compared after each. No stand-in is concerned: there are
@@ -27,13 +27,13 @@ use sides::{
 const CALLS: Function<Case, Vec<After>> =
     Function::new("calls", run::<Port>, run::<Rust<Patched>>).same_upstream(run::<Rust<Upstream>>);
 
-/// The pairs after each.
-const PAIRS: Function<Case, Vec<Pairs>> =
-    Function::new("pairs", run_pairs::<Port>, run_pairs::<Rust<Patched>>)
-        .upstream(run_pairs::<Rust<Upstream>>, |_| "up to 79 calls");
+/// The pairs at the end.
+const PAIRS: Function<Case, Pairs> =
+    Function::new("pairs", last_pairs::<Port>, last_pairs::<Rust<Patched>>)
+        .upstream(last_pairs::<Rust<Upstream>>, |_| "up to 79 calls");
 
-/// Hundreds of calls about the number of kept hashes: a digest of the history is compared after each, and
-/// the history at the end.
+/// A digest of the history with its pairs is compared after each call, and the history at the end:
+/// hundreds of calls about the number of kept hashes, and calls on a small history.
 const LONG_CALLS: Function<Case, Told> =
     Function::new("long_calls", told::<Port>, told::<Rust<Patched>>);
 
@@ -307,6 +307,7 @@ impl Part for HeldBlocks {
             Job::over(PAIRS, opening_cases()),
             Job::random(PAIRS, plan.scaled(10_000), inputs::draw_calls),
             Job::random(LONG_CALLS, plan.scaled(400), inputs::draw_long_calls),
+            Job::random(LONG_CALLS, plan.scaled(10_000), inputs::draw_calls),
             Job::random(FOREIGN_STATE, plan.scaled(100_000), draw_foreign),
             Job::random(FOREIGN_MARKS, plan.scaled(20_000), draw_marked),
             Job::random(STORY, plan.scaled(40), inputs::draw_story),

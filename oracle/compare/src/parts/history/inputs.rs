@@ -126,7 +126,7 @@ fn draw_short(rng: &mut Rng) -> u8 {
 }
 
 /// 0, about as much as some blocks have, or any.
-fn draw_budget(rng: &mut Rng, blocks: u64) -> u64 {
+pub fn draw_budget(rng: &mut Rng, blocks: u64) -> u64 {
     match rng.below(8) {
         0 => 0,
         1 | 2 => u64::MAX,

@@ -800,12 +800,11 @@ pub fn run<S: Side>((opening, steps): &Case) -> Vec<After> {
     out
 }
 
-/// The pairs after each call.
-pub fn run_pairs<S: Side>((opening, steps): &Case) -> Vec<Pairs> {
+/// The pairs after the last call.
+pub fn last_pairs<S: Side>((opening, steps): &Case) -> Pairs {
     let (mut history, _) = S::open(opening);
-    let pairs = |step: &Step| {
+    for step in steps {
         history.step(step);
-        history.pairs()
-    };
-    steps.iter().map(pairs).collect()
+    }
+    history.pairs()
 }

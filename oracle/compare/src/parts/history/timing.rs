@@ -1,2 +1,231 @@
+//! Both sides at the box's size. Each has its own history, and is given the same calls.
+
+use super::rattle;
+use super::sides::{Call, Hash, Opening, Patched, Port, Side, block_hash, hash_bytes, marked};
 use crate::bench::Bench;
-pub fn rows(_: &mut Bench) {}
+use crate::parts::windows::inputs::{BOX_CAPACITY, BOX_HURDLES, BOX_TARGETS, CALM, Stretch};
+use patched_net::fee_history::HistoricalFeeBlock;
+use std::cell::Cell;
+
+/// Each block's byte count.
+const BYTES: u64 = 35_000;
+/// The first held height: half of them all, so that there is room on both sides.
+const FIRST: u32 = 1 << 31;
+
+/// The Rust as it is timed: never inlined, so that both sides pay for a call.
+mod rust {
+    use super::{HistoricalFeeBlock, Patched};
+    use std::collections::HashMap;
+
+    #[inline(never)]
+    pub fn insert(history: &mut Patched, height: u32, block: HistoricalFeeBlock, hash: [u8; 32]) {
+        history.insert(height, block, Some(hash));
+    }
+
+    #[inline(never)]
+    pub fn insert_if_absent(
+        history: &mut Patched,
+        height: u32,
+        block: HistoricalFeeBlock,
+        hash: [u8; 32],
+    ) {
+        history.insert_if_absent(height, block, Some(hash));
+    }
+
+    #[inline(never)]
+    pub fn truncate_above(history: &mut Patched, height: u32) {
+        history.truncate_above(height);
+    }
+
+    #[inline(never)]
+    pub fn get(history: &Patched, height: u32) -> Option<HistoricalFeeBlock> {
+        history.get(height)
+    }
+
+    #[inline(never)]
+    pub fn entries(history: &Patched) -> Vec<(u32, HistoricalFeeBlock)> {
+        history.entries()
+    }
+
+    #[inline(never)]
+    pub fn recent_hashes(history: &Patched) -> Vec<(u32, [u8; 32])> {
+        history.recent_hashes()
+    }
+
+    #[inline(never)]
+    pub fn rates(history: &mut Patched) -> HashMap<u32, Option<u64>> {
+        history.rates()
+    }
+}
+
+fn block(rate: u64) -> HistoricalFeeBlock {
+    HistoricalFeeBlock {
+        p10_sat_kvb: Some(rate),
+        txstat_bytes: BYTES,
+    }
+}
+
+impl Port {
+    fn all(&mut self) -> rattle::Lists<'_> {
+        self.memory.lend(0, rattle::Asked::default())
+    }
+
+    fn insert(&mut self, height: u32, rate: u64, hash: Hash) {
+        let (state, block) = (self.state, marked((Some(rate), BYTES)));
+        let update = rattle::insert(state, height, block, block_hash(hash), &mut self.all());
+        assert_eq!(update.refusal, 0, "there is room");
+        self.state = update.state;
+    }
+
+    fn insert_if_absent(&mut self, height: u32, rate: u64, hash: Hash) {
+        let (state, block) = (self.state, marked((Some(rate), BYTES)));
+        let hash = block_hash(hash);
+        let update = rattle::insert_if_absent(state, height, block, hash, &mut self.all());
+        assert_eq!(update.refusal, 0, "there is room");
+        self.state = update.state;
+    }
+
+    fn truncate_above(&mut self, height: u32) {
+        self.state = rattle::truncate_above(self.state, height, &mut self.all()).state;
+    }
+}
+
+/// Histories of both sides that hold the box's blocks, and no more bytes than these have.
+fn histories(budget: u64) -> (Port, Patched) {
+    let (mut port, _) = Port::open(&Opening {
+        budget,
+        targets: BOX_TARGETS.to_vec(),
+        capacity: BOX_CAPACITY,
+        short: 0,
+    });
+    let mut history = Patched::new(budget, &BOX_TARGETS);
+    for (height, rate) in (FIRST..).zip(calm(1, BOX_HURDLES)) {
+        port.insert(height, rate, Some(rate));
+        history.insert(height, block(rate), Some(hash_bytes(rate)));
+    }
+    assert_eq!(port.state.count as u64, BOX_HURDLES, "the blocks are held");
+    assert_eq!(history.blocks.len() as u64, BOX_HURDLES);
+    (port, history)
+}
+
+fn calm(seed: u64, length: u64) -> Vec<u64> {
+    let kind = CALM;
+    Stretch { kind, seed, length }.hurdles()
+}
+
+/// A height that goes up or down by one with each call.
+struct Heights(Cell<u32>);
+
+impl Heights {
+    fn up(&self) -> u32 {
+        self.0.update(|height| height + 1);
+        self.0.get()
+    }
+
+    fn down(&self) -> u32 {
+        self.0.update(|height| height - 1);
+        self.0.get()
+    }
+}
+
+/// A block comes and the oldest is evicted, or an older block comes and the newest is cut off: 31,000 are
+/// held. What the port moves when it meets the end of its memory is in its time.
+fn insert_rows(bench: &mut Bench) {
+    let (mut port, mut history) = histories(BYTES * BOX_HURDLES);
+    let next = calm(2, 4_096);
+    let tip = FIRST + BOX_HURDLES as u32 - 1;
+    let heights = [(); 2].map(|_| Heights(Cell::new(tip)));
+    bench.row(
+        "insert_and_evict",
+        &next,
+        |rate| port.insert(heights[0].up(), *rate, Some(*rate)),
+        |rate| {
+            let hash = hash_bytes(*rate);
+            rust::insert(&mut history, heights[1].up(), block(*rate), hash);
+        },
+    );
+    bench.row(
+        "insert_if_absent_behind",
+        &next,
+        |rate| port.insert_if_absent(heights[0].up(), *rate, Some(*rate)),
+        |rate| {
+            let hash = hash_bytes(*rate);
+            rust::insert_if_absent(&mut history, heights[1].up(), block(*rate), hash);
+        },
+    );
+    let (mut port, mut history) = histories(u64::MAX);
+    let firsts = [(); 2].map(|_| Heights(Cell::new(FIRST)));
+    let blocks = BOX_HURDLES as u32;
+    bench.row(
+        "insert_if_absent_in_front",
+        &next,
+        |rate| {
+            let height = firsts[0].down();
+            port.insert_if_absent(height, *rate, Some(*rate));
+            port.truncate_above(height + blocks - 1);
+        },
+        |rate| {
+            let height = firsts[1].down();
+            rust::insert_if_absent(&mut history, height, block(*rate), hash_bytes(*rate));
+            rust::truncate_above(&mut history, height + blocks - 1);
+        },
+    );
+}
+
+fn read_rows(bench: &mut Bench) {
+    let (mut port, history) = histories(u64::MAX);
+    let tip = FIRST + BOX_HURDLES as u32;
+    let heights: Vec<u32> = (FIRST..tip).step_by(61).collect();
+    bench.row(
+        "get",
+        &heights,
+        |height| rattle::get(port.state, *height, &mut port.memory.lend(0, rattle::Asked::default())),
+        |height| rust::get(&history, *height),
+    );
+    bench.row(
+        "entries_31000",
+        &[()],
+        |_| rattle::entries(port.state, &mut port.memory.lend(0, rattle::Asked::default())),
+        |_| rust::entries(&history),
+    );
+    bench.row(
+        "recent_hashes",
+        &[()],
+        |_| rattle::recent_hashes(port.state, &mut port.memory.lend(0, rattle::Asked::default())),
+        |_| rust::recent_hashes(&history),
+    );
+}
+
+/// The rates of 11 targets: worked out, kept, and worked out after a preload between held heights.
+fn rate_rows(bench: &mut Bench) {
+    let (mut port, mut history) = histories(u64::MAX);
+    let mut rates = |bench: &mut Bench, name: &str, fresh: bool, stale: bool| {
+        bench.row(
+            name,
+            &[()],
+            |_| {
+                port.state.kept &= !fresh;
+                port.state.analog_stale |= stale;
+                port.called(&Call::Rates.into())
+            },
+            |_| {
+                if fresh {
+                    history.rates = None;
+                }
+                history.analog_stale |= stale;
+                rust::rates(&mut history)
+            },
+        );
+    };
+    rates(bench, "rates_fresh_11_targets", true, false);
+    rates(bench, "rates_kept_11_targets", false, false);
+    rates(bench, "rates_stale_11_targets", true, true);
+}
+
+pub fn rows(bench: &mut Bench) {
+    insert_rows(bench);
+    read_rows(bench);
+    if super::sides::READY {
+        rate_rows(bench);
+    }
+}
