@@ -5,9 +5,9 @@ use mathlib.Core.List.{List, _∷_, _++_, append-assoc}
 use native.Mathlib.Numerals.{add-one}
 use native.Mathlib.Omega.{arith}
 use native.Mathlib.Nat.{add-sub-of-le}
-use lib.ListN.{length, take, drop, getD, set, length-drop, List·getD-append}
-use lib.Seq.{take-length, paste-zero, paste-suc, length-paste, length-paste-head, length-take-le, getD-append-add, getD-drop, getD-take, drop-cons, take-suc, set-at, append-snoc, take-at, drop-at}
-use mathlib.Core.Bool.{Bool, true, false, _&&_, true≢false}
+use lib.ListN.{length, take, drop, getD, set, length-drop, take-append-drop, List·getD-append}
+use lib.Seq.{drop-drop, take-length, paste-zero, paste-suc, length-paste, length-paste-head, length-take-le, getD-append-add, getD-drop, getD-take, drop-cons, take-suc, set-at, append-snoc, take-at, drop-at}
+use mathlib.Core.Bool.{Bool, true, false, cond, _&&_, true≢false}
 use lib.Dec.{leb}
 use borrow.Author.Tests.{le-leb, lt-leb, leb-true, leb-false}
 use Rattle.slices.specs.Lists.{moved, bothFit, copyWithin, copyFront}
@@ -141,6 +141,23 @@ module _ {A : Type 0} (xs : List A) (to from n : ℕ) where
   pub copy-done : bothFit (length xs) to from n ≡ true → moved xs to from n ≡ copyWithin xs to from n
   unfolding copyWithin
   copy-done e = sym (rw e)
+
+  -- a run that stays where it is
+  moved-same : moved xs to to n ≡ xs
+  unfolding moved
+  moved-same =
+      append-assoc (take to xs) (take n (drop to xs)) (drop (to + n) xs)
+      ∙ ap (λ (ys : List A). take to xs ++ (take n (drop to xs) ++ ys)) (sym (drop-drop n to xs))
+      ∙ ap (λ (ys : List A). take to xs ++ ys) (take-append-drop n (drop to xs))
+      ∙ take-append-drop to xs
+
+  pub copy-same : to ≡ from → xs ≡ copyWithin xs to from n
+  unfolding copyWithin
+  copy-same e = rw (sym e) (go (bothFit (length xs) to to n))
+    where
+      go : (b : Bool) → xs ≡ cond b (moved xs to to n) xs
+      go true = sym moved-same
+      go false = refl
 
   -- for callers: runs that fit are moved
   pub copied : to + n ≤ length xs → from + n ≤ length xs → copyWithin xs to from n ≡ moved xs to from n

@@ -110,6 +110,9 @@ fn both_fit(len: usize, to: usize, from: usize, n: usize) -> bool
 pub fn copy_within_u64(xs: &mut [u64], to: usize, from: usize, n: usize)
     ensures { λ _. ⌜ now (xs .exit) ≡ copyWithin (now (xs .entry)) to from n ⌝ }
 {
+    if to == from {
+        return;
+    }
     if !both_fit(xs.len(), to, from, n) {
         return;
     }
@@ -123,6 +126,9 @@ pub fn copy_within_u64(xs: &mut [u64], to: usize, from: usize, n: usize)
 pub fn copy_within_f64(xs: &mut [f64], to: usize, from: usize, n: usize)
     ensures { λ _. ⌜ now (xs .exit) ≡ copyWithin (now (xs .entry)) to from n ⌝ }
 {
+    if to == from {
+        return;
+    }
     if !both_fit(xs.len(), to, from, n) {
         return;
     }
@@ -136,6 +142,9 @@ pub fn copy_within_f64(xs: &mut [f64], to: usize, from: usize, n: usize)
 pub fn copy_within_u32(xs: &mut [u32], to: usize, from: usize, n: usize)
     ensures { λ _. ⌜ now (xs .exit) ≡ copyWithin (now (xs .entry)) to from n ⌝ }
 {
+    if to == from {
+        return;
+    }
     if !both_fit(xs.len(), to, from, n) {
         return;
     }
@@ -149,6 +158,9 @@ pub fn copy_within_u32(xs: &mut [u32], to: usize, from: usize, n: usize)
 pub fn copy_within_u8(xs: &mut [u8], to: usize, from: usize, n: usize)
     ensures { λ _. ⌜ now (xs .exit) ≡ copyWithin (now (xs .entry)) to from n ⌝ }
 {
+    if to == from {
+        return;
+    }
     if !both_fit(xs.len(), to, from, n) {
         return;
     }

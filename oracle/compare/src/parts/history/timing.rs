@@ -1,8 +1,9 @@
 //! Both sides at the box's size. Each has its own history, and is given the same calls.
 
-use super::rattle;
+use super::rattle::{self, Memory};
 use super::sides::{Call, Hash, Opening, Patched, Port, Side, block_hash, hash_bytes, marked};
 use crate::bench::Bench;
+use crate::rng::Rng;
 use crate::parts::windows::inputs::{BOX_CAPACITY, BOX_HURDLES, BOX_TARGETS, CALM, Stretch};
 use patched_net::fee_history::HistoricalFeeBlock;
 use std::cell::Cell;
@@ -65,14 +66,15 @@ fn block(rate: u64) -> HistoricalFeeBlock {
     }
 }
 
-impl Port {
-    fn all(&mut self) -> rattle::Lists<'_> {
-        self.memory.lend(0, rattle::Asked::default())
-    }
+/// Every list as long as it is.
+fn all(memory: &mut Memory) -> rattle::Lists<'_> {
+    memory.lend(0, rattle::Asked::default())
+}
 
+impl Port {
     fn insert(&mut self, height: u32, rate: u64, hash: Hash) {
         let (state, block) = (self.state, marked((Some(rate), BYTES)));
-        let update = rattle::insert(state, height, block, block_hash(hash), &mut self.all());
+        let update = rattle::insert(state, height, block, block_hash(hash), &mut all(&mut self.memory));
         assert_eq!(update.refusal, 0, "there is room");
         self.state = update.state;
     }
@@ -80,13 +82,13 @@ impl Port {
     fn insert_if_absent(&mut self, height: u32, rate: u64, hash: Hash) {
         let (state, block) = (self.state, marked((Some(rate), BYTES)));
         let hash = block_hash(hash);
-        let update = rattle::insert_if_absent(state, height, block, hash, &mut self.all());
+        let update = rattle::insert_if_absent(state, height, block, hash, &mut all(&mut self.memory));
         assert_eq!(update.refusal, 0, "there is room");
         self.state = update.state;
     }
 
     fn truncate_above(&mut self, height: u32) {
-        self.state = rattle::truncate_above(self.state, height, &mut self.all()).state;
+        self.state = rattle::truncate_above(self.state, height, &mut all(&mut self.memory)).state;
     }
 }
 
@@ -174,24 +176,26 @@ fn insert_rows(bench: &mut Bench) {
 
 fn read_rows(bench: &mut Bench) {
     let (mut port, history) = histories(u64::MAX);
-    let tip = FIRST + BOX_HURDLES as u32;
-    let heights: Vec<u32> = (FIRST..tip).step_by(61).collect();
+    let mut rng = Rng::new(1, "bench history");
+    let heights: Vec<u32> = (0..4_096)
+        .map(|_| FIRST + rng.below(BOX_HURDLES) as u32)
+        .collect();
     bench.row(
         "get",
         &heights,
-        |height| rattle::get(port.state, *height, &mut port.memory.lend(0, rattle::Asked::default())),
+        |height| rattle::get(port.state, *height, &mut all(&mut port.memory)),
         |height| rust::get(&history, *height),
     );
     bench.row(
         "entries_31000",
         &[()],
-        |_| rattle::entries(port.state, &mut port.memory.lend(0, rattle::Asked::default())),
+        |_| rattle::entries(port.state, &mut all(&mut port.memory)),
         |_| rust::entries(&history),
     );
     bench.row(
         "recent_hashes",
         &[()],
-        |_| rattle::recent_hashes(port.state, &mut port.memory.lend(0, rattle::Asked::default())),
+        |_| rattle::recent_hashes(port.state, &mut all(&mut port.memory)),
         |_| rust::recent_hashes(&history),
     );
 }
