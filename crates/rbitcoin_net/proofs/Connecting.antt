@@ -84,12 +84,12 @@ module _ (h p : ℕ) (s : FeeHistory) (m : Lent) (x : Placed s m h p) where
   served : Serves s m
   served = serves s m (x .lent)
 
-  pub cut-ready : (s .start ≤ p) × (p ≤ s .start + s .count) × (s .start + s .count ≤ length (m .rows .marks)) × (s .start + s .count ≤ length (m .rows .sizes))
+  pub cut-ready : (s .start ≤ p) × (p ≤ s .start + s .count) × (s .start + s .count ≤ length (m .rows .marks)) × (s .start + s .count ≤ length (m .rows .rates)) × (s .start + s .count ≤ length (m .rows .sizes))
   cut-ready =
       let v = served in
       let w = v .rows-within in
       let r = v .rows-reach in
-      (x .low, x .high, omega (arith, r .marks), omega (arith, r .sizes))
+      (x .low, x .high, omega (arith, r .marks), omega (arith, r .rates), omega (arith, r .sizes))
 
   pub hashes-ready : (0 ≤ s .hashes) × (s .hashes ≤ length (m .hashes .heights))
   hashes-ready = let v = served in (omega arith, omega (arith, v .hashes-few, v .heights-reach))

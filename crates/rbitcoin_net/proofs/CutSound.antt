@@ -165,7 +165,7 @@ cut-means m z us bs ds h s x = cut-view m z us bs ds (next h) s (good m z us bs 
 
 -- ---- `truncate_above`
 
--- a cut reads heights, marks and sizes, and no byte of a hash
+-- what a cut leaves depends on heights, marks and sizes, and on no byte of a hash
 rows-alike : (pop : AnalogHistory → AnalogHistory) (hs gs ms rs qs zs : List ℕ) (n i : ℕ) (s : FeeHistory) → forgetRows pop (rows hs ms rs zs) i n s ≡ forgetRows pop (rows gs ms qs zs) i n s
 unfolding forgetRows
 rows-alike pop hs gs ms rs qs zs zero i s = refl

@@ -7,30 +7,57 @@ use native.Mathlib.Numerals.{add-one}
 use native.Mathlib.Omega.{arith}
 use lib.Dec.{eqb}
 use lib.ListN.{length, getD}
-use borrow.Author.Tests.{eq-eqb, ne-eqb}
 use Rattle.num.specs.Word.{saturatingSub}
+use Rattle.rbitcoin_mempool.specs.declared.answer.Rate.{Rate}
+use Rattle.rbitcoin_mempool.specs.declared.answer.Rate.the-variants.{There, Missing}
 use Rattle.rbitcoin_mempool.specs.declared.fee_analog.history.AnalogHistory.{AnalogHistory}
+use Rattle.rbitcoin_mempool.specs.Rates.{given, markOf}
 use Rattle.rbitcoin_mempool.specs.Windows.{popBackOf}
-use Rattle.rbitcoin_net.specs.Lent.{Rows}
-use Rattle.rbitcoin_net.specs.Cuts.{withRows, withSums, forgetRow, forgetRows, cutAt}
+use Rattle.rbitcoin_net.specs.Lent.{Rows, blockAt}
+use Rattle.rbitcoin_net.specs.Cuts.{withRows, withSums, forgetRow, forgetBlock, forgetRows, cutAt}
+use Rattle.rbitcoin_net.specs.declared.fee_history.HistoricalFeeBlock.{HistoricalFeeBlock}
 use Rattle.rbitcoin_net.specs.declared.fee_history.FeeHistory.{FeeHistory}
 
-module _ (pop : AnalogHistory → AnalogHistory) (mark size total : ℕ) (s t : FeeHistory) (sum : total ≡ saturatingSub (s .«txstat_bytes») size) where
-  pub forget-missing : (mark ≡ 1 → ⊥) → t ≡ withSums (s .analog) total s → t ≡ forgetRow pop mark size s
-  unfolding forgetRow
-  forget-missing n e = e ∙ rw (ne-eqb mark 1 n, sum)
+-- a block forgotten, by its cases
+module _ (pop : AnalogHistory → AnalogHistory) (old : HistoricalFeeBlock) (total : ℕ) (s t : FeeHistory) (sum : total ≡ saturatingSub (s .«txstat_bytes») (old .«txstat_bytes»)) where
+  abbrev pops : Rate → Bool → Bool
+  pops r stale = eqb (markOf (given r)) 1 && not stale
 
-  pub forget-stale : mark ≡ 1 → s .«analog_stale» ≡ true → t ≡ withSums (s .analog) total s → t ≡ forgetRow pop mark size s
+  pub forget-stale : s .«analog_stale» ≡ true → t ≡ withSums (s .analog) total s → t ≡ forgetBlock pop old s
   unfolding forgetRow
-  forget-stale m b e =
-      let g : (eqb mark 1 && not (s .«analog_stale»)) ≡ false = (λ i. eq-eqb mark 1 m i && not (b i)) in
+  forget-stale b e =
+      let g : pops (old .«p10_sat_kvb») (s .«analog_stale») ≡ false = ap (pops (old .«p10_sat_kvb»)) b ∙ go (old .«p10_sat_kvb») in
+      e ∙ rw (g, sum)
+    where
+      go : (r : Rate) → pops r true ≡ false
+      go (There n) = refl
+      go Missing = refl
+
+  pub forget-missing : old .«p10_sat_kvb» ≡ Missing → t ≡ withSums (s .analog) total s → t ≡ forgetBlock pop old s
+  unfolding forgetRow
+  forget-missing r e =
+      let g : pops (old .«p10_sat_kvb») (s .«analog_stale») ≡ false = ap (λ (x : Rate). pops x (s .«analog_stale»)) r in
       e ∙ rw (g, sum)
 
-  pub forget-rated : (a : AnalogHistory) → mark ≡ 1 → s .«analog_stale» ≡ false → a ≡ pop (s .analog) → t ≡ withSums a total s → t ≡ forgetRow pop mark size s
+  pub forget-there : (n : ℕ) (a : AnalogHistory) → old .«p10_sat_kvb» ≡ There n → s .«analog_stale» ≡ false → a ≡ pop (s .analog) → t ≡ withSums a total s → t ≡ forgetBlock pop old s
   unfolding forgetRow
-  forget-rated a m b d e =
-      let g : (eqb mark 1 && not (s .«analog_stale»)) ≡ true = (λ i. eq-eqb mark 1 m i && not (b i)) in
+  forget-there n a r b d e =
+      let g : pops (old .«p10_sat_kvb») (s .«analog_stale») ≡ true = (λ i. pops (r i) (b i)) in
       e ∙ rw (g, sum, d)
+
+-- a rate that was read from a mark has mark 1 where that mark is 1
+marked-again : (b : Bool) (n : ℕ) → eqb (markOf (given (cond b (There n) Missing))) 1 ≡ b
+marked-again true n = refl
+marked-again false n = refl
+
+-- the block at a place is forgotten as its row is
+pub block-row : (pop : AnalogHistory → AnalogHistory) (m : Rows) (i : ℕ) (s : FeeHistory) → forgetBlock pop (blockAt m i) s ≡ forgetRow pop (getD (m .marks) i 0) (getD (m .sizes) i 0) s
+unfolding forgetRow
+block-row pop m i s =
+    ap (λ (b : Bool). withSums (cond (b && not (s .«analog_stale»)) (pop (s .analog)) (s .analog)) (saturatingSub (s .«txstat_bytes») (getD (m .sizes) i 0)) s) (marked-again (eqb (getD (m .marks) i 0) 1) (getD (m .rates) i 0))
+
+pub forgotten-at : (pop : AnalogHistory → AnalogHistory) (m : Rows) (i : ℕ) (old : HistoricalFeeBlock) (s t : FeeHistory) → old ≡ blockAt m i → t ≡ forgetBlock pop old s → t ≡ forgetRow pop (getD (m .marks) i 0) (getD (m .sizes) i 0) s
+forgotten-at pop m i old s t o e = e ∙ ap (λ (b : HistoricalFeeBlock). forgetBlock pop b s) o ∙ block-row pop m i s
 
 -- one row more is forgotten, and none is left
 module _ (pop : AnalogHistory → AnalogHistory) (m : Rows) (end : ℕ) (x : FeeHistory) where

@@ -9,13 +9,15 @@ use lib.ListN.{length, getD}
 use borrow.Author.Tests.{lt-ltb, le-ltb}
 use Rattle.slices.proofs.Runs.{length-moved}
 use Rattle.rbitcoin_mempool.specs.Windows.{popFrontOf}
-use Rattle.rbitcoin_net.specs.Lent.{Rows, Hashes, hashes}
+use Rattle.rbitcoin_net.specs.Lent.{Rows, Hashes, hashes, blockAt}
 use Rattle.rbitcoin_net.specs.Search.{isAt}
 use Rattle.rbitcoin_net.specs.Hashes.{Kept, kept, Room, movedHashes, hashPlace, removeAt, removeHash}
 use Rattle.rbitcoin_net.specs.Cuts.{withRows, withSums, withHashes, unkept, forgetRow}
-use Rattle.rbitcoin_net.specs.Evictions.{Held, held, evictRow, evictOldest, evictRows, evictIn}
+use Rattle.rbitcoin_net.specs.Evictions.{Held, held, evictRow, evictBlock, evictOldest, evictRows, evictIn}
+use Rattle.rbitcoin_net.specs.declared.fee_history.HistoricalFeeBlock.{HistoricalFeeBlock}
 use Rattle.rbitcoin_net.specs.declared.fee_history.FeeHistory.{FeeHistory}
 use Rattle.rbitcoin_net.proofs.Search.{is-at-true}
+use Rattle.rbitcoin_net.proofs.Cuts.{block-row}
 
 -- a dropped hash leaves room
 pub remove-room : (h : ℕ) (k : Kept) → Room k → Room (removeHash h k)
@@ -45,11 +47,21 @@ unfolding evictRow
 evicted-one height mark size left s t z y e d =
     (λ i. held (withHashes (e i .count) (withRows (s .start + 1) (s .count - 1) (d i))) (e i .lists))
 
+-- the block at a place is evicted as its row is
+pub evicted-at : (height i : ℕ) (m : Rows) (old : HistoricalFeeBlock) (x y : Held) → old ≡ blockAt m i → y ≡ evictBlock height old x → y ≡ evictRow height (getD (m .marks) i 0) (getD (m .sizes) i 0) x
+unfolding evictRow
+evicted-at height i m old x y o e =
+    let k = removeHash height (kept (x .state .hashes) (x .hashes)) in
+    e
+    ∙ ap (λ (b : HistoricalFeeBlock). evictBlock height b x) o
+    ∙ ap (λ (t : FeeHistory). held (withHashes (k .count) (withRows (x .state .start + 1) (x .state .count - 1) t)) (k .lists)) (block-row popFrontOf m i (x .state))
+
 -- what the loop keeps: the rows that are left lie in the lists, the hashes have room, and evicting from here gives what it gave at first
-pub record Going (m : Rows) (h k r : ℕ) (goal : Held) (x : Held) : Type 0 where
+pub record Going (m : Rows) (h k q r : ℕ) (goal : Held) (x : Held) : Type 0 where
   pub small : x .state .start + x .state .count ≤ 65536
   pub heights : x .state .start + x .state .count ≤ h
   pub marks : x .state .start + x .state .count ≤ k
+  pub rates : x .state .start + x .state .count ≤ q
   pub sizes : x .state .start + x .state .count ≤ r
   pub room : Room (kept (x .state .hashes) (x .hashes))
   pub same : evictRows m (x .state .count) x ≡ goal
@@ -70,14 +82,15 @@ evict-turn m zero x p l = absurd (omega arith)
 evict-turn m (suc n) x p l = let e : suc n - 1 ≡ n = omega arith in rw (e, lt-ltb _ _ l)
 
 -- a turn of the loop
-pub going-on : (m : Rows) (h k r : ℕ) (goal x y : Held) → Going m h k r goal x → 0 < x .state .count → x .state .budget < x .state .«txstat_bytes» → y ≡ evictOldest m x → Going m h k r goal y
+pub going-on : (m : Rows) (h k q r : ℕ) (goal x y : Held) → Going m h k q r goal x → 0 < x .state .count → x .state .budget < x .state .«txstat_bytes» → y ≡ evictOldest m x → Going m h k q r goal y
 unfolding evictRow
-going-on m h k r goal x y g p l e =
-    subst (Going m h k r goal) (sym e)
+going-on m h k q r goal x y g p l e =
+    subst (Going m h k q r goal) (sym e)
     record {
       small = omega (arith, g .small);
       heights = omega (arith, g .heights);
       marks = omega (arith, g .marks);
+      rates = omega (arith, g .rates);
       sizes = omega (arith, g .sizes);
       room = remove-room (getD (m .heights) (x .state .start) 0) (kept (x .state .hashes) (x .hashes)) (g .room);
       same = sym (evict-turn m (x .state .count) x p l) ∙ g .same;

@@ -80,7 +80,7 @@ module _ (q h : ℕ) (b : HistoricalFeeBlock) (s : FeeHistory) (m : Rows) where
 
   -- rows that lie in their lists
   abbrev Lies : Stored → Type 0
-  Lies y = (y .state .start + y .state .count ≤ 65536) × (y .state .start + y .state .count ≤ length (y .rows .heights)) × (y .state .start + y .state .count ≤ length (y .rows .marks)) × (y .state .start + y .state .count ≤ length (y .rows .sizes))
+  Lies y = (y .state .start + y .state .count ≤ 65536) × (y .state .start + y .state .count ≤ length (y .rows .heights)) × (y .state .start + y .state .count ≤ length (y .rows .marks)) × (y .state .start + y .state .count ≤ length (y .rows .rates)) × (y .state .start + y .state .count ≤ length (y .rows .sizes))
 
   module _ (p : Roomy q s (length (m .heights)) (length (m .marks)) (length (m .rates)) (length (m .sizes))) where
     lies : Lies (holdAt q h b (stored s m))
@@ -91,8 +91,9 @@ module _ (q h : ℕ) (b : HistoricalFeeBlock) (s : FeeHistory) (m : Rows) where
         let to = startWith s q in
         let a = opened-long (m .heights) (s .start) to q n (source q h b s m p _ (p .heights)) (target q h b s m p _ (p .heights)) 0 h in
         let d = opened-long (m .marks) (s .start) to q n (source q h b s m p _ (p .marks)) (target q h b s m p _ (p .marks)) 0 (markOf (hurdleOf b)) in
+        let f = opened-long (m .rates) (s .start) to q n (source q h b s m p _ (p .rates)) (target q h b s m p _ (p .rates)) 0 (numberOf (hurdleOf b)) in
         let g = opened-long (m .sizes) (s .start) to q n (source q h b s m p _ (p .sizes)) (target q h b s m p _ (p .sizes)) 0 (b .«txstat_bytes») in
-        (omega (arith, p .small), omega (arith, p .heights), omega (arith, p .marks), omega (arith, p .sizes))
+        (omega (arith, p .small), omega (arith, p .heights), omega (arith, p .marks), omega (arith, p .rates), omega (arith, p .sizes))
 
     pub evict-ready : (t : FeeHistory) (n : Rows) → stored t n ≡ holdAt q h b (stored s m) → Lies (stored t n)
     evict-ready t n e = subst Lies (sym e) lies
@@ -100,7 +101,7 @@ module _ (q h : ℕ) (b : HistoricalFeeBlock) (s : FeeHistory) (m : Rows) where
 pub note-ready : (h c n : ℕ) (hash : BlockHash) (z y : Hashes) → length (hash .bytes) ≡ 32 → kept n y ≡ noteHashIn h (hashOf hash) (kept c z) → Room (kept c z) → Room (kept n y)
 note-ready h c n hash z y l e r = subst Room (sym e) (noted-room h (hashOf hash) (hash-whole hash l) (kept c z) r)
 
--- an eviction reads no rate
+-- what an eviction leaves does not depend on the rates' numbers
 rows-alike : (hs ms rs qs zs : List ℕ) (n : ℕ) (x : Held) → evictRows (rows hs ms rs zs) n x ≡ evictRows (rows hs ms qs zs) n x
 unfolding evictRows
 rows-alike hs ms rs qs zs zero x = refl

@@ -9,11 +9,13 @@ use lib.ListN.{length, getD}
 use Rattle.num.specs.Word.{saturatingSub}
 use Rattle.rbitcoin_mempool.specs.declared.fee_analog.history.AnalogHistory.{AnalogHistory}
 use Rattle.rbitcoin_mempool.specs.Outcome.{Verdict, verdictOf}
+use Rattle.rbitcoin_mempool.specs.Rates.{markOf}
 use Rattle.rbitcoin_mempool.specs.Windows.{orElse, popBackOf}
-use Rattle.rbitcoin_net.specs.History.{History, next, truncateAbove}
+use Rattle.rbitcoin_net.specs.History.{History, next, hurdleOf, truncateAbove}
 use Rattle.rbitcoin_net.specs.Lent.{Rows, Hashes, Lent, lent, view, Sound, stateRefusal, rowsRefusal, hashesRefusal}
 use Rattle.rbitcoin_net.specs.Search.{placeOf}
 use Rattle.rbitcoin_net.specs.Hashes.{kept, hashPlace}
+use Rattle.rbitcoin_net.specs.declared.fee_history.HistoricalFeeBlock.{HistoricalFeeBlock}
 use Rattle.rbitcoin_net.specs.declared.fee_history.FeeHistory.{FeeHistory}
 
 -- fields of a state set: where its rows lie; windows and total; the number of hashes; no kept rates
@@ -33,6 +35,10 @@ unkept s = record { analog = s .analog; «analog_stale» = s .«analog_stale»; 
 unfoldable pub forgetRow : (AnalogHistory → AnalogHistory) → ℕ → ℕ → FeeHistory → FeeHistory
 forgetRow pop mark size s =
     withSums (cond (eqb mark 1 && not (s .«analog_stale»)) (pop (s .analog)) (s .analog)) (saturatingSub (s .«txstat_bytes») size) s
+
+-- a block is no longer held: by the mark and the size that it is stored with
+abbrev pub forgetBlock : (AnalogHistory → AnalogHistory) → HistoricalFeeBlock → FeeHistory → FeeHistory
+forgetBlock pop b s = forgetRow pop (markOf (hurdleOf b)) (b .«txstat_bytes») s
 
 -- n rows from place i on, one after the other
 unfoldable pub forgetRows : (AnalogHistory → AnalogHistory) → Rows → ℕ → ℕ → FeeHistory → FeeHistory

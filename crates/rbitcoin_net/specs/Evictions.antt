@@ -3,10 +3,13 @@ use Prim.Native.Nat.{ℕ, zero, suc, _+_, _-_}
 use mathlib.Core.Bool.{cond}
 use lib.Dec.{ltb}
 use lib.ListN.{getD}
+use Rattle.rbitcoin_mempool.specs.Rates.{markOf}
 use Rattle.rbitcoin_mempool.specs.Windows.{popFrontOf}
+use Rattle.rbitcoin_net.specs.History.{hurdleOf}
 use Rattle.rbitcoin_net.specs.Lent.{Rows, Hashes}
 use Rattle.rbitcoin_net.specs.Hashes.{Kept, kept, removeHash}
 use Rattle.rbitcoin_net.specs.Cuts.{withRows, withSums, withHashes, unkept, forgetRow}
+use Rattle.rbitcoin_net.specs.declared.fee_history.HistoricalFeeBlock.{HistoricalFeeBlock}
 use Rattle.rbitcoin_net.specs.declared.fee_history.FeeHistory.{FeeHistory}
 
 -- a state with the lists of its hashes
@@ -23,6 +26,10 @@ evictRow height mark size x =
     let s = x .state in
     let k = removeHash height (kept (s .hashes) (x .hashes)) in
     held (withHashes (k .count) (withRows (s .start + 1) (s .count - 1) (forgetRow popFrontOf mark size s))) (k .lists)
+
+-- the same of a block, by the mark and the size that it is stored with
+abbrev pub evictBlock : ℕ → HistoricalFeeBlock → Held → Held
+evictBlock height b x = evictRow height (markOf (hurdleOf b)) (b .«txstat_bytes») x
 
 abbrev pub evictOldest : Rows → Held → Held
 evictOldest m x = evictRow (getD (m .heights) (x .state .start) 0) (getD (m .marks) (x .state .start) 0) (getD (m .sizes) (x .state .start) 0) x

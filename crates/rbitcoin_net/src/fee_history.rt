@@ -298,7 +298,7 @@ impl FeeHistory {
         }
         HistoryUpdate {
             outcome: Outcome::Done,
-            state: truncate(self, height, heights, marks, sizes, hash_heights),
+            state: truncate(self, height, heights, marks, rates, sizes, hash_heights),
         }
     }
 

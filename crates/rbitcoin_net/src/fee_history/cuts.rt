@@ -6,10 +6,13 @@ ghost use mathlib.Core.List.{[]};
 ghost use Rattle.rbitcoin_mempool.specs.Windows.{popBackOf};
 ghost use Rattle.rbitcoin_net.specs.History.{next};
 ghost use Rattle.rbitcoin_net.specs.Lent.{rows, hashes};
-ghost use Rattle.rbitcoin_net.specs.Cuts.{withSums, forgetRow, cutAt, truncateIn};
+ghost use Rattle.rbitcoin_net.specs.Cuts.{withSums, forgetBlock, cutAt, truncateIn};
 use super::FeeHistory;
+use super::HistoricalFeeBlock;
+use super::search::block_at;
 use super::search::lower_bound;
 use num::word::saturating_sub;
+use rbitcoin_mempool::answer::Rate;
 use rbitcoin_mempool::fee_analog::AnalogHistory;
 
 // `saturating_add(1)` of a height.
@@ -28,26 +31,35 @@ pub(crate) fn with_sums(s: FeeHistory, analog: AnalogHistory, total: u64) -> Fee
     t
 }
 
-// A row of a mark and a size, the newest, is no longer held.
-fn forget_back(s: FeeHistory, mark: u8, size: u64) -> FeeHistory
-    ensures { λ r. ⌜ r ≡ forgetRow popBackOf mark size s ⌝ }
+// The newest block is no longer held: a rate that is there leaves the hurdles, unless they are stale.
+fn forget_back(s: FeeHistory, old: HistoricalFeeBlock) -> FeeHistory
+    ensures { λ r. ⌜ r ≡ forgetBlock popBackOf old s ⌝ }
 {
     let analog = s.analog;
-    let total = saturating_sub(s.txstat_bytes, size);
-    if mark != 1 {
-        return with_sums(s, analog, total);
-    }
+    let total = saturating_sub(s.txstat_bytes, old.txstat_bytes);
     if s.analog_stale {
         return with_sums(s, analog, total);
     }
-    let r = analog.pop_back();
-    let popped = r.state;
-    with_sums(s, popped, total)
+    let rate = old.p10_sat_kvb;
+    match rate {
+        Rate::There(_) => {
+            let r = analog.pop_back();
+            let popped = r.state;
+            with_sums(s, popped, total)
+        }
+        Rate::Missing => with_sums(s, analog, total),
+    }
 }
 
 // The rows from place p on dropped, the oldest of them first.
-pub(crate) fn cut_at(s: FeeHistory, p: usize, marks: &[u8], sizes: &[u64]) -> FeeHistory
-    requires { ⌜ (s .start ≤ p) × (p ≤ s .start + s .count) × (s .start + s .count ≤ length (now marks)) × (s .start + s .count ≤ length (now sizes)) ⌝ }
+pub(crate) fn cut_at(
+    s: FeeHistory,
+    p: usize,
+    marks: &[u8],
+    rates: &[u64],
+    sizes: &[u64],
+) -> FeeHistory
+    requires { ⌜ (s .start ≤ p) × (p ≤ s .start + s .count) × (s .start + s .count ≤ length (now marks)) × (s .start + s .count ≤ length (now rates)) × (s .start + s .count ≤ length (now sizes)) ⌝ }
     ensures { λ r. ⌜ r ≡ cutAt (rows [] (now (marks .entry)) [] (now (sizes .entry))) p s ⌝ }
 {
     let start = s.start;
@@ -55,7 +67,7 @@ pub(crate) fn cut_at(s: FeeHistory, p: usize, marks: &[u8], sizes: &[u64]) -> Fe
     let mut t = s;
     let mut i = p;
     while i < end {
-        t = forget_back(t, marks[i], sizes[i]);
+        t = forget_back(t, block_at(marks, rates, sizes, i));
         i += 1;
     }
     t.count = p - start;
@@ -68,10 +80,11 @@ pub(crate) fn truncate(
     height: u32,
     heights: &[u32],
     marks: &[u8],
+    rates: &[u64],
     sizes: &[u64],
     hash_heights: &[u32],
 ) -> FeeHistory
-    requires { ⌜ (s .start + s .count ≤ length (now heights)) × (s .start + s .count ≤ length (now marks)) × (s .start + s .count ≤ length (now sizes)) × (s .hashes ≤ length (now «hash_heights»)) ⌝ }
+    requires { ⌜ (s .start + s .count ≤ length (now heights)) × (s .start + s .count ≤ length (now marks)) × (s .start + s .count ≤ length (now rates)) × (s .start + s .count ≤ length (now sizes)) × (s .hashes ≤ length (now «hash_heights»)) ⌝ }
     ensures { λ r. ⌜ r ≡ truncateIn height (rows (now (heights .entry)) (now (marks .entry)) [] (now (sizes .entry))) (hashes (now («hash_heights» .entry)) []) s ⌝ }
 {
     let first = next_height(height);
@@ -79,7 +92,7 @@ pub(crate) fn truncate(
     let end = start + s.count;
     let p = lower_bound(heights, start, end, first);
     let q = lower_bound(hash_heights, 0, s.hashes, first);
-    let mut t = cut_at(s, p, marks, sizes);
+    let mut t = cut_at(s, p, marks, rates, sizes);
     t.hashes = q;
     t.kept = false;
     t

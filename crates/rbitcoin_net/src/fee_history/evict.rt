@@ -4,46 +4,51 @@ ghost use mathlib.Core.List.{[]};
 ghost use Prim.Native.Nat.{_+_, _≤_, _<_};
 ghost use lib.ListN.{length, getD};
 ghost use Rattle.rbitcoin_mempool.specs.Windows.{popFrontOf};
-ghost use Rattle.rbitcoin_net.specs.Cuts.{forgetRow};
-ghost use Rattle.rbitcoin_net.specs.Evictions.{held, evictRow, evictIn};
+ghost use Rattle.rbitcoin_net.specs.Cuts.{forgetBlock};
+ghost use Rattle.rbitcoin_net.specs.Evictions.{held, evictBlock, evictIn};
 ghost use Rattle.rbitcoin_net.specs.Hashes.{kept, Room};
 ghost use Rattle.rbitcoin_net.specs.Lent.{rows, hashes};
 use super::FeeHistory;
+use super::HistoricalFeeBlock;
 use super::cuts::with_sums;
 use super::hashes::remove_hash;
+use super::search::block_at;
 use num::word::saturating_sub;
+use rbitcoin_mempool::answer::Rate;
 
-// A row of a mark and a size, the oldest, is no longer held.
-fn forget_front(s: FeeHistory, mark: u8, size: u64) -> FeeHistory
-    ensures { λ r. ⌜ r ≡ forgetRow popFrontOf mark size s ⌝ }
+// The oldest block is no longer held: a rate that is there leaves the hurdles, unless they are stale.
+fn forget_front(s: FeeHistory, old: HistoricalFeeBlock) -> FeeHistory
+    ensures { λ r. ⌜ r ≡ forgetBlock popFrontOf old s ⌝ }
 {
     let analog = s.analog;
-    let total = saturating_sub(s.txstat_bytes, size);
-    if mark != 1 {
-        return with_sums(s, analog, total);
-    }
+    let total = saturating_sub(s.txstat_bytes, old.txstat_bytes);
     if s.analog_stale {
         return with_sums(s, analog, total);
     }
-    let r = analog.pop_front();
-    let popped = r.state;
-    with_sums(s, popped, total)
+    let rate = old.p10_sat_kvb;
+    match rate {
+        Rate::There(_) => {
+            let r = analog.pop_front();
+            let popped = r.state;
+            with_sums(s, popped, total)
+        }
+        Rate::Missing => with_sums(s, analog, total),
+    }
 }
 
-// The oldest row goes, of a height, a mark and a size, and its hash with it.
+// The oldest block goes, of a height, and its hash with it.
 fn evict_one(
     s: FeeHistory,
     height: u32,
-    mark: u8,
-    size: u64,
+    old: HistoricalFeeBlock,
     hash_heights: &mut [u32],
     hash_bytes: &mut [u8],
 ) -> FeeHistory
     requires { ⌜ (0 < s .count) × (s .start < 65536) × Room (kept (s .hashes) (hashes (now «hash_heights») (now «hash_bytes»))) ⌝ }
-    ensures { λ r. ⌜ held r (hashes (now («hash_heights» .exit)) (now («hash_bytes» .exit))) ≡ evictRow height mark size (held s (hashes (now («hash_heights» .entry)) (now («hash_bytes» .entry)))) ⌝ }
+    ensures { λ r. ⌜ held r (hashes (now («hash_heights» .exit)) (now («hash_bytes» .exit))) ≡ evictBlock height old (held s (hashes (now («hash_heights» .entry)) (now («hash_bytes» .entry)))) ⌝ }
 {
     let left = remove_hash(s.hashes, height, hash_heights, hash_bytes);
-    let mut t = forget_front(s, mark, size);
+    let mut t = forget_front(s, old);
     t.start = s.start + 1;
     t.count = s.count - 1;
     t.hashes = left;
@@ -55,11 +60,12 @@ pub(crate) fn evict(
     s: FeeHistory,
     heights: &[u32],
     marks: &[u8],
+    rates: &[u64],
     sizes: &[u64],
     hash_heights: &mut [u32],
     hash_bytes: &mut [u8],
 ) -> FeeHistory
-    requires { ⌜ (s .start + s .count ≤ 65536) × (s .start + s .count ≤ length (now heights)) × (s .start + s .count ≤ length (now marks)) × (s .start + s .count ≤ length (now sizes)) × Room (kept (s .hashes) (hashes (now «hash_heights») (now «hash_bytes»))) ⌝ }
+    requires { ⌜ (s .start + s .count ≤ 65536) × (s .start + s .count ≤ length (now heights)) × (s .start + s .count ≤ length (now marks)) × (s .start + s .count ≤ length (now rates)) × (s .start + s .count ≤ length (now sizes)) × Room (kept (s .hashes) (hashes (now «hash_heights») (now «hash_bytes»))) ⌝ }
     ensures { λ r. ⌜ held r (hashes (now («hash_heights» .exit)) (now («hash_bytes» .exit))) ≡ evictIn (rows (now (heights .entry)) (now (marks .entry)) [] (now (sizes .entry))) (held s (hashes (now («hash_heights» .entry)) (now («hash_bytes» .entry)))) ⌝ }
 {
     let mut t = s;
@@ -70,14 +76,8 @@ pub(crate) fn evict(
             return t;
         }
         let at = t.start;
-        t = evict_one(
-            t,
-            heights[at],
-            marks[at],
-            sizes[at],
-            hash_heights,
-            hash_bytes,
-        );
+        let old = block_at(marks, rates, sizes, at);
+        t = evict_one(t, heights[at], old, hash_heights, hash_bytes);
     }
     t
 }

@@ -130,7 +130,7 @@ fn store(
     let noted = note_hash(t.hashes, height, hash, hash_heights, hash_bytes);
     let mut u = t;
     u.hashes = noted;
-    evict(u, heights, marks, sizes, hash_heights, hash_bytes)
+    evict(u, heights, marks, rates, sizes, hash_heights, hash_bytes)
 }
 
 // What stands from `height` on goes, from place p on, and the new row is the newest.
@@ -154,7 +154,7 @@ fn connect(
     ensures { λ r. ⌜ whole r (lent (rows (now (heights .exit)) (now (marks .exit)) (now (rates .exit)) (now (sizes .exit))) (hashes (now («hash_heights» .exit)) (now («hash_bytes» .exit))) (now (hurdles .exit)) (now (befores .exit)) (now (aheads .exit))) ≡ insertIn height block (hashOf hash) (whole s (lent (rows (now (heights .entry)) (now (marks .entry)) (now (rates .entry)) (now (sizes .entry))) (hashes (now («hash_heights» .entry)) (now («hash_bytes» .entry))) (now (hurdles .entry)) (now (befores .entry)) (now (aheads .entry)))) ⌝ }
 {
     let q = lower_bound(hash_heights, 0, s.hashes, height);
-    let mut t = cut_at(s, p, marks, sizes);
+    let mut t = cut_at(s, p, marks, rates, sizes);
     t.hashes = q;
     t.kept = false;
     let rate = block.p10_sat_kvb;

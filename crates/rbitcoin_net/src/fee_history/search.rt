@@ -50,7 +50,7 @@ pub(crate) fn rate_of(mark: u8, number: u64) -> Rate
     }
 }
 
-fn block_at(marks: &[u8], rates: &[u64], sizes: &[u64], at: usize) -> HistoricalFeeBlock
+pub(crate) fn block_at(marks: &[u8], rates: &[u64], sizes: &[u64], at: usize) -> HistoricalFeeBlock
     requires { ⌜ (at < length (now marks)) × (at < length (now rates)) × (at < length (now sizes)) ⌝ }
     ensures { λ r. ⌜ r ≡ blockAt (rows [] (now (marks .entry)) (now (rates .entry)) (now (sizes .entry))) at ⌝ }
 {

@@ -15,7 +15,7 @@ returns c = truncate-refused _ _ _ _ (c .before .truncate-refusal .result) (c .b
 truncate-requires : tie.Need-truncate-requires
 truncate-requires c κs =
     let f = truncate-fits _ _ _ _ _ _ _ (sym (c .before .truncate-refusal .ensures) ∙ c .if1 .left) in
-    (f .0 .heights, f .0 .marks, f .0 .sizes, f .1)
+    (f .0 .heights, f .0 .marks, f .0 .rates, f .0 .sizes, f .1)
 
 returns-2 : tie.Need-returns-2
 returns-2 c = truncate-done _ _ _ _ (c .before .before .truncate-refusal .result) (c .before .before .truncate-refusal .ensures) _ (c .before .if1 .left) (c .truncate .ensures ∙ truncate-alike _ _ _ _ _ _ _ _)
