@@ -276,18 +276,24 @@ impl<T: Words> Words for Vec<T> {
     }
 }
 
-impl<T: Input> Input for Vec<T> {
-    /// Without a run of elements, from long runs to single elements; then with one element smaller.
-    fn smaller(&self) -> Vec<Vec<T>> {
-        let mut out = Vec::new();
-        let mut run = self.len();
-        while run > 0 {
-            for start in (0..self.len()).step_by(run) {
-                let end = (start + run).min(self.len());
-                out.push([&self[..start], &self[end..]].concat());
-            }
-            run /= 2;
+/// The list without a run of elements, from long runs to single elements.
+pub fn without_runs<T: Clone>(list: &[T]) -> Vec<Vec<T>> {
+    let mut out = Vec::new();
+    let mut run = list.len();
+    while run > 0 {
+        for start in (0..list.len()).step_by(run) {
+            let end = (start + run).min(list.len());
+            out.push([&list[..start], &list[end..]].concat());
         }
+        run /= 2;
+    }
+    out
+}
+
+impl<T: Input> Input for Vec<T> {
+    /// Without a run of elements; then with one element smaller.
+    fn smaller(&self) -> Vec<Vec<T>> {
+        let mut out = without_runs(self);
         for (place, element) in self.iter().enumerate() {
             for less in element.smaller() {
                 let mut list = self.clone();

@@ -18,8 +18,8 @@ use crate::rng::Rng;
 use crate::words::{Word, Words};
 use inputs::Story;
 use sides::{
-    After, Call, Case, Opening, Pairs, Patched, Port, Reply, Rust, Side, State, Step, Upstream,
-    last_pairs, run,
+    After, Call, Case, LongCase, Opening, Pairs, Patched, Port, Reply, Rust, Side, State, Step,
+    Upstream, last_pairs, run,
 };
 
 /// Up to 79 calls on a small history, which is compared after each. No stand-in is concerned: there are
@@ -34,8 +34,11 @@ const PAIRS: Function<Case, Pairs> =
 
 /// A digest of the history with its pairs is compared after each call, and the history at the end:
 /// hundreds of calls about the number of kept hashes, and calls on a small history.
-const LONG_CALLS: Function<Case, Told> =
-    Function::new("long_calls", told::<Port>, told::<Rust<Patched>>);
+const LONG_CALLS: Function<LongCase, Told> = Function::new(
+    "long_calls",
+    |case| told::<Port>(&case.0),
+    |case| told::<Rust<Patched>>(&case.0),
+);
 
 /// Thousands of calls on a history that has rates.
 const STORY: Function<Story, Told> = Function::new(
@@ -89,12 +92,9 @@ fn told<S: Side>((opening, steps): &Case) -> Told {
 }
 
 /// The rates of a story.
-const RATES: Function<Story, Vec<Reply>> = Function::new(
-    "rates",
-    rates_of::<Port>,
-    rates_of::<Rust<Patched>>,
-)
-.upstream(rates_of::<Rust<Upstream>>, rates_region);
+const RATES: Function<Story, Vec<Reply>> =
+    Function::new("rates", rates_of::<Port>, rates_of::<Rust<Patched>>)
+        .upstream(rates_of::<Rust<Upstream>>, rates_region);
 
 fn rates_of<S: Side>(story: &Story) -> Vec<Reply> {
     let (opening, steps) = story.case();
@@ -148,9 +148,8 @@ const FOREIGN_STATE: Function<Foreign, Reply> = Function::new(
 
 fn foreign_refusal(foreign: &Foreign) -> u8 {
     let ((tracked, capacity, first), (hurdles, start, count), (hashes, step)) = foreign;
-    let past = |start: &u64, count: &u64| {
-        u128::from(*start) + u128::from(*count) > u128::from(*capacity)
-    };
+    let past =
+        |start: &u64, count: &u64| u128::from(*start) + u128::from(*count) > u128::from(*capacity);
     let unequal = matches!(step.short, rattle::OUT_NUMBERS | rattle::OUT_MARKS);
     if unequal && matches!(step.call, Call::Entries | Call::Rates) {
         1
@@ -306,8 +305,12 @@ impl Part for HeldBlocks {
             Job::random(CALLS, plan.scaled(40_000), inputs::draw_calls),
             Job::over(PAIRS, opening_cases()),
             Job::random(PAIRS, plan.scaled(10_000), inputs::draw_calls),
-            Job::random(LONG_CALLS, plan.scaled(400), inputs::draw_long_calls),
-            Job::random(LONG_CALLS, plan.scaled(10_000), inputs::draw_calls),
+            Job::random(LONG_CALLS, plan.scaled(400), |rng| {
+                LongCase(inputs::draw_long_calls(rng))
+            }),
+            Job::random(LONG_CALLS, plan.scaled(10_000), |rng| {
+                LongCase(inputs::draw_calls(rng))
+            }),
             Job::random(FOREIGN_STATE, plan.scaled(100_000), draw_foreign),
             Job::random(FOREIGN_MARKS, plan.scaled(20_000), draw_marked),
             Job::random(STORY, plan.scaled(40), inputs::draw_story),
@@ -321,5 +324,116 @@ impl Part for HeldBlocks {
 
     fn bench(&self, bench: &mut Bench) {
         timing::rows(bench);
+    }
+}
+
+#[cfg(test)]
+mod tests {
+    use super::*;
+    use std::collections::HashMap;
+
+    fn case(budget: u64, capacity: u64, calls: Vec<Call>) -> Case {
+        let opening = Opening {
+            budget,
+            targets: vec![1],
+            capacity,
+            short: 0,
+        };
+        (opening, calls.into_iter().map(Step::from).collect())
+    }
+
+    /// Refusals and held heights after each call, which both sides agree on.
+    fn heights(case: &Case) -> Vec<(u8, Vec<u32>)> {
+        let (port, rust) = (run::<Port>(case), run::<Rust<Patched>>(case));
+        assert!(crate::words::same(&port.words(), &rust.words()));
+        let after = rust.into_iter().skip(1);
+        let heights = |state: State| state.blocks.into_iter().map(|(height, _)| height).collect();
+        after
+            .map(|after| (after.reply.refusal, heights(after.state)))
+            .collect()
+    }
+
+    const BLOCK: (Option<u64>, u64) = (Some(5), 10);
+
+    /// Not so the comment: "Drop every height above `height`".
+    #[test]
+    fn a_cut_above_the_largest_height_drops_it() {
+        let top = u32::MAX;
+        let calls = vec![
+            Call::Insert(top - 1, BLOCK, None),
+            Call::Insert(top, BLOCK, None),
+            Call::TruncateAbove(top),
+        ];
+        let after = heights(&case(100, 4, calls));
+        assert_eq!(after[1], (0, vec![top - 1, top]));
+        assert_eq!(after[2], (0, vec![top - 1]));
+    }
+
+    #[test]
+    fn a_full_history_refuses() {
+        let calls = vec![
+            Call::Insert(4, BLOCK, None),
+            Call::Insert(6, BLOCK, None),
+            // No room above; a reorg has room.
+            Call::Insert(7, BLOCK, None),
+            Call::Insert(6, BLOCK, None),
+            // Absent, even if it would be evicted; held.
+            Call::InsertIfAbsent(5, BLOCK, None),
+            Call::InsertIfAbsent(3, (Some(5), 1_000), None),
+            Call::InsertIfAbsent(4, BLOCK, None),
+        ];
+        let after = heights(&case(100, 2, calls));
+        let refusals: Vec<u8> = after.iter().map(|(refusal, _)| *refusal).collect();
+        assert_eq!(refusals, [0, 0, 4, 0, 4, 4, 0]);
+        assert!(after[1..].iter().all(|(_, heights)| *heights == [4, 6]));
+    }
+
+    #[test]
+    fn the_oldest_is_evicted() {
+        let connect = |height| Call::Insert(height, BLOCK, Some(u64::from(height)));
+        let after = heights(&case(25, 8, (1..5).map(connect).collect()));
+        let held: Vec<Vec<u32>> = after.into_iter().map(|(_, heights)| heights).collect();
+        assert_eq!(held, [vec![1], vec![1, 2], vec![2, 3], vec![3, 4]]);
+    }
+
+    #[test]
+    fn calls_are_of_every_kind() {
+        let mut rng = Rng::new(1, "kinds");
+        let mut refusals = HashMap::new();
+        let (mut stale, mut most) = (0, 0);
+        for _ in 0..1_000 {
+            for after in run::<Rust<Patched>>(&inputs::draw_calls(&mut rng)) {
+                *refusals.entry(after.reply.refusal).or_insert(0) += 1;
+                stale += u64::from(after.state.stale);
+            }
+        }
+        for _ in 0..20 {
+            for after in run::<Rust<Patched>>(&inputs::draw_long_calls(&mut rng)) {
+                most = most.max(after.state.hashes.len());
+            }
+        }
+        assert_eq!(refusals.len(), 5, "{refusals:?}");
+        assert!(refusals.values().all(|count| *count > 10), "{refusals:?}");
+        assert!(stale > 100, "{stale}");
+        assert_eq!(most, 144);
+    }
+
+    #[test]
+    fn a_changed_list_is_a_difference() {
+        let (opening, steps) = case(100, 4, vec![Call::Insert(7, BLOCK, Some(1))]);
+        let (mut port, _) = Port::open(&opening);
+        assert!(port.step(&steps[0]).kept);
+        let before = (port.state, port.memory.clone());
+        let reply = Reply::of(Vec::new());
+        assert!(port.keeps(&Call::Get(7), &reply, &before));
+        port.memory.hash_bytes[40] ^= 1;
+        assert!(!port.keeps(&Call::Get(7), &reply, &before));
+        port.memory = before.1.clone();
+        port.memory.out_sizes[0] ^= 1;
+        assert!(!port.keeps(&Call::RecentHashes, &reply, &before));
+        assert!(port.keeps(&Call::Entries, &reply, &before));
+        port.memory = before.1.clone();
+        port.state.txstat_bytes += 1;
+        assert!(!port.keeps(&Call::TruncateAbove(7), &Reply::refused(5), &before));
     }
 }

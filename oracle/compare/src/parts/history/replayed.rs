@@ -42,7 +42,11 @@ fn height_of(code: u64) -> u32 {
 fn step((code, word): Coded) -> Step {
     let height = height_of(code);
     let rate = (code & RATE != 0).then_some(word);
-    let bytes = if code & BYTES != 0 { word } else { word % 1_000 };
+    let bytes = if code & BYTES != 0 {
+        word
+    } else {
+        word % 1_000
+    };
     let hash: Hash = (code & HASH != 0).then_some(word);
     let call = match code % 4 {
         0 => Call::Insert(height, (rate, bytes), hash),
@@ -124,7 +128,12 @@ fn draw_calls(rng: &mut Rng) -> Calls {
 
 /// Connects at heights that follow on one another.
 fn connects(first: u32, count: u32) -> Vec<Coded> {
-    let connect = |height| (u64::from(first + height) << 32 | RATE | HASH, 7 + u64::from(height));
+    let connect = |height| {
+        (
+            u64::from(first + height) << 32 | RATE | HASH,
+            7 + u64::from(height),
+        )
+    };
     (0..count).map(connect).collect()
 }
 

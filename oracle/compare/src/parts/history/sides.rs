@@ -1,7 +1,7 @@
 //! Calls on held blocks, and the history of either side.
 
 use super::rattle::{self, Asked, BlockHash, Lists, MarkedBlock, Memory, RECENT_HASHES};
-use crate::words::{Input, Word, Words};
+use crate::words::{Input, Word, Words, without_runs};
 use std::hint::black_box;
 
 pub const READY: bool = false;
@@ -447,18 +447,32 @@ impl Port {
             && past(&bits(&now.befores), &bits(&memory.befores), pairs)
             && past(&now.aheads, &memory.aheads, pairs)
             && (scanned || now.scratch == memory.scratch)
-            && past(&now.out_heights, &memory.out_heights, count(is_entries || is_hashes, out))
+            && past(
+                &now.out_heights,
+                &memory.out_heights,
+                count(is_entries || is_hashes, out),
+            )
             && past(&now.out_marks, &memory.out_marks, count(!is_hashes, out))
-            && past(&now.out_numbers, &memory.out_numbers, count(!is_hashes, out))
+            && past(
+                &now.out_numbers,
+                &memory.out_numbers,
+                count(!is_hashes, out),
+            )
             && past(&now.out_sizes, &memory.out_sizes, count(is_entries, out))
-            && past(&now.out_bytes, &memory.out_bytes, count(is_hashes, 32 * out))
+            && past(
+                &now.out_bytes,
+                &memory.out_bytes,
+                count(is_hashes, 32 * out),
+            )
             && (self.state == *state || done && !call.reads())
     }
 
     /// Of a refused call, a read, and any call on little memory a copy is kept to compare with.
     fn is_watched(&self, step: &Step) -> bool {
         const LITTLE: usize = 1 << 12;
-        self.memory.aheads.len() < LITTLE || step.short != 0 || step.call.reads()
+        self.memory.aheads.len() < LITTLE
+            || step.short != 0
+            || step.call.reads()
             || self.state.count == self.state.analog.capacity
     }
 }
@@ -537,7 +551,12 @@ impl Side for Port {
                 answer: 0,
             };
             let lent = &mut memory.lend(opening.short, asked);
-            rattle::new(opening.budget, &mut targets, opening.capacity as usize, lent)
+            rattle::new(
+                opening.budget,
+                &mut targets,
+                opening.capacity as usize,
+                lent,
+            )
         };
         let mut port = Port {
             state: update.state,
@@ -643,13 +662,13 @@ macro_rules! rust_history {
                     }
                     Call::Entries => {
                         let rows = self.entries().into_iter();
-                        let rows =
-                            rows.flat_map(|(h, b)| row(h, (b.p10_sat_kvb, b.txstat_bytes)));
+                        let rows = rows.flat_map(|(h, b)| row(h, (b.p10_sat_kvb, b.txstat_bytes)));
                         return rows.collect();
                     }
                     Call::RecentHashes => {
                         let hashes = self.recent_hashes().into_iter();
-                        let words = |(h, bytes)| [&[u64::from(h)], &hash_words(&bytes)[..]].concat();
+                        let words =
+                            |(h, bytes)| [&[u64::from(h)], &hash_words(&bytes)[..]].concat();
                         return hashes.flat_map(words).collect();
                     }
                     Call::Rates if !READY => {}
@@ -773,6 +792,30 @@ impl<H: History> Side for Rust<H> {
 
 /// An opening and calls.
 pub type Case = (Opening, Vec<Step>);
+
+/// Hundreds of calls, of which runs are left out before single ones are made smaller.
+#[derive(Clone)]
+pub struct LongCase(pub Case);
+
+impl Words for LongCase {
+    fn write(&self, out: &mut Vec<Word>) {
+        self.0.write(out);
+    }
+}
+
+impl Input for LongCase {
+    fn smaller(&self) -> Vec<LongCase> {
+        const FEW: usize = 40;
+        let (opening, steps) = &self.0;
+        if steps.len() <= FEW {
+            return self.0.smaller().into_iter().map(LongCase).collect();
+        }
+        let fewer = without_runs(steps).into_iter();
+        fewer
+            .map(|steps| LongCase((opening.clone(), steps)))
+            .collect()
+    }
+}
 
 /// What a call was answered with, and the history after it.
 pub struct After {

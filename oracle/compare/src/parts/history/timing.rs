@@ -3,8 +3,8 @@
 use super::rattle::{self, Memory};
 use super::sides::{Call, Hash, Opening, Patched, Port, Side, block_hash, hash_bytes, marked};
 use crate::bench::Bench;
-use crate::rng::Rng;
 use crate::parts::windows::inputs::{BOX_CAPACITY, BOX_HURDLES, BOX_TARGETS, CALM, Stretch};
+use crate::rng::Rng;
 use patched_net::fee_history::HistoricalFeeBlock;
 use std::cell::Cell;
 
@@ -74,7 +74,13 @@ fn all(memory: &mut Memory) -> rattle::Lists<'_> {
 impl Port {
     fn insert(&mut self, height: u32, rate: u64, hash: Hash) {
         let (state, block) = (self.state, marked((Some(rate), BYTES)));
-        let update = rattle::insert(state, height, block, block_hash(hash), &mut all(&mut self.memory));
+        let update = rattle::insert(
+            state,
+            height,
+            block,
+            block_hash(hash),
+            &mut all(&mut self.memory),
+        );
         assert_eq!(update.refusal, 0, "there is room");
         self.state = update.state;
     }
@@ -82,7 +88,8 @@ impl Port {
     fn insert_if_absent(&mut self, height: u32, rate: u64, hash: Hash) {
         let (state, block) = (self.state, marked((Some(rate), BYTES)));
         let hash = block_hash(hash);
-        let update = rattle::insert_if_absent(state, height, block, hash, &mut all(&mut self.memory));
+        let update =
+            rattle::insert_if_absent(state, height, block, hash, &mut all(&mut self.memory));
         assert_eq!(update.refusal, 0, "there is room");
         self.state = update.state;
     }
