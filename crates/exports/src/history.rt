@@ -8,6 +8,7 @@ ghost use Rattle.rbitcoin_net.specs.Hashes.{hashOf};
 ghost use Rattle.rbitcoin_net.specs.Inserts.{whole, Inserts, InsertsIfAbsent};
 ghost use Rattle.rbitcoin_net.specs.Lent.{rows, hashes, lent};
 ghost use Rattle.rbitcoin_net.specs.Openings.{Opens};
+ghost use Rattle.rbitcoin_net.specs.Rates.{rated, outputs, AnswersRates};
 ghost use Rattle.rbitcoin_net.specs.Readers.{Entries, RecentHashes};
 ghost use Rattle.rbitcoin_net.specs.Search.{looked, getIn};
 ghost use Rattle.exports.specs.Blocks.{blockOf, BlockIs};
@@ -260,6 +261,36 @@ pub extern "C" fn juleyomu_history_truncate_above(
         sizes,
         hash_heights,
         hash_bytes,
+    ))
+}
+
+#[no_mangle]
+pub extern "C" fn juleyomu_history_rates(
+    state: FeeHistory,
+    heights: &[u32],
+    marks: &[u8],
+    rates: &[u64],
+    sizes: &[u64],
+    hurdles: &mut [u64],
+    befores: &mut [f64],
+    aheads: &mut [u64],
+    scratch: &mut [u64],
+    out_numbers: &mut [u64],
+    out_marks: &mut [u8],
+) -> HistoryFields
+    ensures { λ r. ⌜ AnswersRates (rows (now (heights .entry)) (now (marks .entry)) (now (rates .entry)) (now (sizes .entry))) (rated state (now (hurdles .entry)) (now (befores .entry)) (now (aheads .entry))) (outputs (now (scratch .entry)) (now («out_numbers» .entry)) (now («out_marks» .entry))) (verdictOf (r .refusal)) (rated (r .state) (now (hurdles .exit)) (now (befores .exit)) (now (aheads .exit))) (outputs (now (scratch .exit)) (now («out_numbers» .exit)) (now («out_marks» .exit))) ⌝ }
+{
+    history_fields(state.rates(
+        heights,
+        marks,
+        rates,
+        sizes,
+        hurdles,
+        befores,
+        aheads,
+        scratch,
+        out_numbers,
+        out_marks,
     ))
 }
 

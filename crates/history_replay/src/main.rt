@@ -471,12 +471,291 @@ fn calls(rest: &[u8]) {
     );
 }
 
+// The next of a generator's words.
+fn turned(x: u64) -> u64 {
+    let a = x ^ x << 13;
+    let b = a ^ a >> 7;
+    b ^ b << 17
+}
+
+// The block with so many after it and itself: every third rate is above the level, and the last ones are
+// higher.
+fn block_at(rest: &[u8], place: usize, left: u64, x: u64) -> HistoricalFeeBlock {
+    let mut rate = replay_lines::word(rest, 18);
+    if place % 3 == 0 {
+        rate = std::num::wrapping_add_u64(rate, x & replay_lines::word(rest, 35));
+    }
+    if left <= replay_lines::word(rest, 52) {
+        rate = std::num::wrapping_add_u64(rate, replay_lines::word(rest, 69));
+    }
+    HistoricalFeeBlock {
+        p10_sat_kvb: Rate::There(rate),
+        txstat_bytes: 1,
+    }
+}
+
+fn height_at(i: u64) -> u32 {
+    (i % 4294967296) as u32
+}
+
+fn connected(
+    s: FeeHistory,
+    height: u32,
+    block: HistoricalFeeBlock,
+    heights: &mut [u32],
+    marks: &mut [u8],
+    rates: &mut [u64],
+    sizes: &mut [u64],
+    kept: &mut [u32],
+    bytes: &mut [u8],
+    hurdles: &mut [u64],
+    befores: &mut [f64],
+    aheads: &mut [u64],
+) -> FeeHistory {
+    let r = s.insert(
+        height,
+        block,
+        hash_of(0, 0),
+        heights,
+        marks,
+        rates,
+        sizes,
+        kept,
+        bytes,
+        hurdles,
+        befores,
+        aheads,
+    );
+    r.state
+}
+
+// Every second height connected, from 0 on.
+fn connect_all(
+    start: FeeHistory,
+    rest: &[u8],
+    heights: &mut [u32],
+    marks: &mut [u8],
+    rates: &mut [u64],
+    sizes: &mut [u64],
+    kept: &mut [u32],
+    bytes: &mut [u8],
+    hurdles: &mut [u64],
+    befores: &mut [f64],
+    aheads: &mut [u64],
+) -> FeeHistory {
+    let n = counted(replay_lines::word(rest, 86), 2304);
+    let mut s = start;
+    let mut x = replay_lines::word(rest, 1);
+    let mut i: usize = 0;
+    while i < n {
+        x = turned(x);
+        let block = block_at(rest, i, (n - i) as u64, x);
+        s = connected(
+            s,
+            height_at(2 * i as u64),
+            block,
+            heights,
+            marks,
+            rates,
+            sizes,
+            kept,
+            bytes,
+            hurdles,
+            befores,
+            aheads,
+        );
+        i += 1;
+    }
+    s
+}
+
+// A block between held heights, so that the windows are stale.
+fn preloaded(
+    s: FeeHistory,
+    rest: &[u8],
+    heights: &mut [u32],
+    marks: &mut [u8],
+    rates: &mut [u64],
+    sizes: &mut [u64],
+    kept: &mut [u32],
+    bytes: &mut [u8],
+    hurdles: &mut [u64],
+    befores: &mut [f64],
+    aheads: &mut [u64],
+) -> FeeHistory {
+    if replay_lines::word(rest, 137) == 0 {
+        return s;
+    }
+    let r = s.insert_if_absent(
+        1001,
+        block_at(rest, 1, 4294967296, 0),
+        hash_of(0, 0),
+        heights,
+        marks,
+        rates,
+        sizes,
+        kept,
+        bytes,
+        hurdles,
+        befores,
+        aheads,
+    );
+    r.state
+}
+
+fn put_mark(mark: u8) {
+    put_next(mark as u64);
+}
+
+// The refusal, and the answer's lists whole.
+fn put_answer(refusal: u64, numbers: [u64; 3], marks: [u8; 3]) {
+    put(refusal);
+    put_mark(marks[0]);
+    put_next(numbers[0]);
+    put_mark(marks[1]);
+    put_next(numbers[1]);
+    put_mark(marks[2]);
+    put_next(numbers[2]);
+}
+
+// At most as many as a list has.
+fn at_most(list: &[u64], n: u64) -> usize
+    ensures { λ r. ⌜ Counts r (now (list .entry)) ⌝ }
+{
+    counted(n, list.len())
+}
+
+fn put_rates(
+    s: FeeHistory,
+    rest: &[u8],
+    heights: &[u32],
+    marks: &[u8],
+    rates: &[u64],
+    sizes: &[u64],
+    hurdles: &mut [u64],
+    befores: &mut [f64],
+    aheads: &mut [u64],
+) -> FeeHistory {
+    let mut scratch = [0u64; 2304];
+    let z = at_most(&scratch, replay_lines::word(rest, 154));
+    let mut out_numbers = [77u64; 3];
+    let mut out_marks = [77u8; 3];
+    let r = s.rates(
+        heights,
+        marks,
+        rates,
+        sizes,
+        hurdles,
+        befores,
+        aheads,
+        &mut scratch[..z],
+        &mut out_numbers,
+        &mut out_marks,
+    );
+    let outcome = r.outcome;
+    put_answer(number_of(outcome), out_numbers, out_marks);
+    r.state
+}
+
+// Fresh rates, then kept ones.
+fn put_both(
+    rest: &[u8],
+    heights: &mut [u32],
+    marks: &mut [u8],
+    rates: &mut [u64],
+    sizes: &mut [u64],
+    kept: &mut [u32],
+    bytes: &mut [u8],
+    hurdles: &mut [u64],
+    befores: &mut [f64],
+    aheads: &mut [u64],
+) {
+    let s = tracking(rest, heights, marks, rates, sizes, kept, bytes, hurdles, befores, aheads);
+    let t = connect_all(
+        s,
+        rest,
+        heights,
+        marks,
+        rates,
+        sizes,
+        kept,
+        bytes,
+        hurdles,
+        befores,
+        aheads,
+    );
+    let u = preloaded(t, rest, heights, marks, rates, sizes, kept, bytes, hurdles, befores, aheads);
+    let v = put_rates(u, rest, heights, marks, rates, sizes, hurdles, befores, aheads);
+    put_space();
+    put_rates(v, rest, heights, marks, rates, sizes, hurdles, befores, aheads);
+    put_newline();
+}
+
+// A history of two targets.
+fn tracking(
+    rest: &[u8],
+    heights: &[u32],
+    marks: &[u8],
+    rates: &[u64],
+    sizes: &[u64],
+    kept: &[u32],
+    bytes: &[u8],
+    hurdles: &[u64],
+    befores: &[f64],
+    aheads: &[u64],
+) -> FeeHistory {
+    let first = height_at(replay_lines::word(rest, 103));
+    let second = height_at(replay_lines::word(rest, 120));
+    let targets = [first, second];
+    let r = FeeHistory::new(
+        u64::MAX,
+        &targets,
+        2304,
+        heights,
+        marks,
+        rates,
+        sizes,
+        kept,
+        bytes,
+        hurdles,
+        befores,
+        aheads,
+    );
+    r.state
+}
+
+fn rates(rest: &[u8]) {
+    let mut heights = [0u32; 2304];
+    let mut marks = [0u8; 2304];
+    let mut rates = [0u64; 2304];
+    let mut sizes = [0u64; 2304];
+    let mut kept = [0u32; 144];
+    let mut bytes = [0u8; 4608];
+    let mut hurdles = [0u64; 2304];
+    let mut befores = [0.0; 4608];
+    let mut aheads = [0u64; 4608];
+    put_both(
+        rest,
+        &mut heights,
+        &mut marks,
+        &mut rates,
+        &mut sizes,
+        &mut kept,
+        &mut bytes,
+        &mut hurdles,
+        &mut befores,
+        &mut aheads,
+    );
+}
+
 fn answer(line: &[u8]) {
     let stop = replay_lines::find(line, b' ', 0);
     let name = &line[0..stop];
     let rest = &line[stop..];
     if check::same(name, b"calls") {
         calls(rest);
+    } else if check::same(name, b"rates") {
+        rates(rest);
     } else {
         io::write_all(STDOUT_FILENO, b"unknown\n");
     }

@@ -303,7 +303,6 @@ impl Part for HeldBlocks {
         vec![
             Job::over(CALLS, opening_cases()),
             Job::random(CALLS, plan.scaled(40_000), inputs::draw_calls),
-            Job::over(PAIRS, opening_cases()),
             Job::random(PAIRS, plan.scaled(10_000), inputs::draw_calls),
             Job::random(LONG_CALLS, plan.scaled(400), |rng| {
                 LongCase(inputs::draw_long_calls(rng))

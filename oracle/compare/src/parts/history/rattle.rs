@@ -240,6 +240,9 @@ lends!(insert_if_absent as juleyomu_history_insert_if_absent(state: State, heigh
      hurdles: u64, befores: f64, aheads: u64] -> HistoryFields);
 lends!(truncate_above as juleyomu_history_truncate_above(state: State, height: u32)
     [heights: u32, marks: u8, rates: u64, sizes: u64, hash_heights: u32, hash_bytes: u8] -> HistoryFields);
+lends!(rates as juleyomu_history_rates(state: State)
+    [heights: u32, marks: u8, rates: u64, sizes: u64, hurdles: u64, befores: f64, aheads: u64,
+     scratch: u64, out_numbers: u64, out_marks: u8] -> HistoryFields);
 lends!(entries as juleyomu_history_entries(state: State)
     [heights: u32, marks: u8, rates: u64, sizes: u64,
      out_heights: u32, out_marks: u8, out_numbers: u64, out_sizes: u64] -> CountFields);
@@ -252,8 +255,4 @@ pub fn new(budget: u64, targets: &mut [u32], capacity: usize, lent: &mut Lists) 
         [heights: u32, marks: u8, rates: u64, sizes: u64, hash_heights: u32, hash_bytes: u8,
          hurdles: u64, befores: f64, aheads: u64] -> HistoryFields);
     opened(budget, pointer, length, capacity, lent)
-}
-
-pub fn rates(_: State, _: &mut Lists) -> HistoryFields {
-    todo!()
 }

@@ -3,9 +3,10 @@
 use super::inputs::draw_budget;
 use super::sides::{Call, Hash, Opening, Patched, Port, Rust, Side, Step};
 use crate::check::Function;
-use crate::parts::windows::inputs::{draw_hurdle, draw_target};
+use crate::parts::windows::inputs::{draw_hurdle, draw_target, length_for};
 use crate::replay::Replay;
 use crate::rng::Rng;
+use crate::words::{Word, Words};
 
 /// The places of the history that is called.
 const CAPACITY: u64 = 24;
@@ -96,6 +97,92 @@ fn called<S: Side>((budget, targets, calls): &Calls) -> Digests {
     )
 }
 
+/// The places of the history that is asked for rates.
+const PLACES: u64 = 2_304;
+
+/// The generator's seed, the level and the mask of what every third rate adds to it; how many of the last
+/// rates have another level, by how much it is higher, and the number of blocks; two targets, whether a
+/// block comes between them then, and the length of the scratch list.
+type Rated = ((u64, u64, u64), (u64, u64, u64), (u32, u32, (bool, u64)));
+
+const RATES: Function<Rated, Listed> =
+    Function::new("rates", rated::<Port>, rated::<Rust<Patched>>).within(
+        |&(_, (_, _, length), (_, _, (_, scratch)))| length <= PLACES && scratch + 1 >= PLACES,
+    );
+
+/// The refusal and the answer's lists of three places: of rates that are worked out, and again of kept
+/// ones. No number of words before them.
+struct Listed(Vec<u64>);
+
+impl Words for Listed {
+    fn write(&self, out: &mut Vec<Word>) {
+        out.extend(self.0.iter().copied().map(Word::Int));
+    }
+}
+
+/// The rate of the block at a place with so many after it and itself.
+fn rate_at(((_, level, mask), (last, step, _), _): &Rated, place: u64, left: u64, x: u64) -> u64 {
+    let spread = if place % 3 == 0 { x & mask } else { 0 };
+    let higher = if left <= *last { *step } else { 0 };
+    level.wrapping_add(spread).wrapping_add(higher)
+}
+
+fn rated<S: Side>(question: &Rated) -> Listed {
+    let &((seed, ..), (_, _, length), (first, second, (between, scratch))) = question;
+    let (mut history, _) = S::open(&Opening {
+        budget: u64::MAX,
+        targets: vec![first, second],
+        capacity: PLACES,
+        short: 0,
+    });
+    let mut x = seed;
+    for place in 0..length {
+        x ^= x << 13;
+        x ^= x >> 7;
+        x ^= x << 17;
+        let rate = rate_at(question, place, length - place, x);
+        history.step(&Call::Insert(2 * place as u32, (Some(rate), 1), None).into());
+    }
+    if between {
+        let rate = rate_at(question, 1, 1 << 32, 0);
+        history.step(&Call::InsertIfAbsent(1_001, (Some(rate), 1), None).into());
+    }
+    let mut out = Vec::new();
+    for _ in 0..2 {
+        let reply = history.step(&Step {
+            call: Call::Rates,
+            short: if scratch < PLACES {
+                super::rattle::SCRATCH
+            } else {
+                0
+            },
+        });
+        out.push(u64::from(reply.refusal));
+        let mut answer = reply.answer;
+        // The lists keep their rest.
+        answer.resize(6, 77);
+        out.extend(answer);
+    }
+    Listed(out)
+}
+
+/// Under 200, about 200 or more in band; at times all in band, or none.
+fn draw_rated(rng: &mut Rng) -> Rated {
+    let first = rng.pick(&[0, 1, 2, 6, 12, 24, 40, 144]);
+    let pairs = 1_999 + rng.below(60);
+    let level = rng.pick(&[0, 1, 1_000, 20_000, 1 << 62]);
+    let mask = rng.pick(&[0, 0xFF, 0xFFFF]);
+    let last = 190 + rng.below(20);
+    let step = rng.pick(&[0, 300, 5_000, u64::MAX - 500]);
+    let second = rng.pick(&[0, 1, first, 3, 1_008]);
+    let scratch = PLACES - u64::from(rng.below(8) == 0);
+    (
+        (rng.word(), level, mask),
+        (last, step, length_for(first, pairs)),
+        (first, second, (rng.below(2) == 0, scratch)),
+    )
+}
+
 /// Heights about one that a connect has passed, most calls connects.
 fn draw_calls(rng: &mut Rng) -> Calls {
     let base = rng.pick(&[0, 1, 700_000, u64::from(u32::MAX) - 20]);
@@ -156,4 +243,5 @@ pub fn ask(replay: &mut Replay) {
         [0, 7, 8, 30].map(|budget| (budget, vec![1, 1], connects(5, 8))),
     );
     replay.ask_random(&CALLS, 30, draw_calls);
+    replay.ask_random(&RATES, 24, draw_rated);
 }

@@ -4,8 +4,6 @@ use super::rattle::{self, Asked, BlockHash, Lists, MarkedBlock, Memory, RECENT_H
 use crate::words::{Input, Word, Words, without_runs};
 use std::hint::black_box;
 
-pub const READY: bool = false;
-
 /// A budget, targets, capacity, and the list that is lent one place too short, 0 for none; none too is
 /// `EXACT`.
 #[derive(Clone)]
@@ -211,9 +209,6 @@ impl Rules {
 
     /// 1, then 5, then 4.
     fn step(&self, held: &Held, Step { call, short }: &Step) -> u8 {
-        if !READY && matches!(call, Call::Rates) {
-            return 0;
-        }
         let unequal = matches!(*short, rattle::OUT_NUMBERS | rattle::OUT_MARKS);
         if unequal && matches!(call, Call::Entries | Call::Rates) {
             1
@@ -399,7 +394,6 @@ impl Port {
                 rattle::insert_if_absent(state, height, marked(block), block_hash(hash), lent)
             }
             Call::TruncateAbove(height) => rattle::truncate_above(state, height, lent),
-            Call::Rates if !READY => return Reply::refused(0),
             Call::Rates => rattle::rates(state, lent),
             Call::Get(height) => return got(rattle::get(state, height, lent)),
             Call::Entries => return entries(state, lent),
@@ -415,29 +409,67 @@ impl Port {
         reply
     }
 
+    /// What the call may have changed.
+    fn changes(&self, call: &Call, reply: &Reply, before: &(rattle::State, Memory)) -> Changes {
+        let (state, memory) = before;
+        if reply.refusal != 0 {
+            return Changes::default();
+        }
+        let answer = self.asked(call).answer;
+        let mut changes = Changes::default();
+        match call {
+            Call::Get(_) => {}
+            Call::Entries => {
+                (changes.out_heights, changes.out_sizes) = (answer, answer);
+                changes.out_rates = answer;
+            }
+            Call::RecentHashes => {
+                (changes.out_heights, changes.out_hashes) = (answer, answer);
+            }
+            Call::TruncateAbove(_) => changes.state = true,
+            Call::InsertIfAbsent(height, ..) if holds(state, memory, *height) => {}
+            Call::Insert(..) | Call::InsertIfAbsent(..) => {
+                changes.state = true;
+                (changes.rows, changes.windows) = (state.analog.capacity, true);
+                changes.hashes = RECENT_HASHES;
+            }
+            Call::Rates => {
+                changes.out_rates = answer;
+                // Windows that are stale are rebuilt; a scan that found a rate leaves its scratch open.
+                changes.state = !state.kept;
+                changes.windows = !state.kept && state.analog_stale;
+                let found = reply.answer.chunks(2).any(|rate| rate[0] == 1);
+                changes.scratch = !state.kept && found;
+            }
+        }
+        changes
+    }
+
     /// Whether the call left what it must not change: everything where it is refused or only reads, but
     /// for the front of the answer's lists; else what lies past the places of the history.
     pub fn keeps(&self, call: &Call, reply: &Reply, before: &(rattle::State, Memory)) -> bool {
+        let changes = self.changes(call, reply, before);
         let (state, memory) = before;
         let now = black_box(&self.memory);
-        let done = reply.refusal == 0;
-        let inserts = done && matches!(call, Call::Insert(..) | Call::InsertIfAbsent(..));
-        let rates = done && matches!(call, Call::Rates);
-        let lists = done && (call.reads() || rates);
-        let count = |changes: bool, places: usize| if changes { places } else { 0 };
-        let capacity = state.analog.capacity;
-        let rows = count(inserts, capacity);
-        let hashes = count(inserts, RECENT_HASHES);
-        // `rates` rebuilds windows that are stale.
-        let windows = inserts || rates && state.analog_stale;
-        let hurdles = count(windows, capacity);
-        let pairs = count(windows, state.analog.tracked.saturating_mul(capacity));
-        let scanned = rates && !state.kept && reply.answer.chunks(2).any(|rate| rate[0] == 1);
-        let out = count(lists, self.asked(call).answer);
-        let is_entries = matches!(call, Call::Entries);
-        let is_hashes = matches!(call, Call::RecentHashes);
+        let analog = &state.analog;
+        let (hurdles, pairs) = match changes.windows {
+            true => (
+                analog.capacity,
+                analog.tracked.saturating_mul(analog.capacity),
+            ),
+            false => (0, 0),
+        };
         let bits = |list: &[f64]| list.iter().map(|x| x.to_bits()).collect::<Vec<u64>>();
-        now.heights[rows.min(now.heights.len())..] == memory.heights[rows.min(now.heights.len())..]
+        let Changes {
+            rows,
+            hashes,
+            out_heights,
+            out_rates,
+            out_sizes,
+            out_hashes,
+            ..
+        } = changes;
+        past(&now.heights, &memory.heights, rows)
             && past(&now.marks, &memory.marks, rows)
             && past(&now.rates, &memory.rates, rows)
             && past(&now.sizes, &memory.sizes, rows)
@@ -446,25 +478,13 @@ impl Port {
             && past(&now.hurdles, &memory.hurdles, hurdles)
             && past(&bits(&now.befores), &bits(&memory.befores), pairs)
             && past(&now.aheads, &memory.aheads, pairs)
-            && (scanned || now.scratch == memory.scratch)
-            && past(
-                &now.out_heights,
-                &memory.out_heights,
-                count(is_entries || is_hashes, out),
-            )
-            && past(&now.out_marks, &memory.out_marks, count(!is_hashes, out))
-            && past(
-                &now.out_numbers,
-                &memory.out_numbers,
-                count(!is_hashes, out),
-            )
-            && past(&now.out_sizes, &memory.out_sizes, count(is_entries, out))
-            && past(
-                &now.out_bytes,
-                &memory.out_bytes,
-                count(is_hashes, 32 * out),
-            )
-            && (self.state == *state || done && !call.reads())
+            && (changes.scratch || now.scratch == memory.scratch)
+            && past(&now.out_heights, &memory.out_heights, out_heights)
+            && past(&now.out_marks, &memory.out_marks, out_rates)
+            && past(&now.out_numbers, &memory.out_numbers, out_rates)
+            && past(&now.out_sizes, &memory.out_sizes, out_sizes)
+            && past(&now.out_bytes, &memory.out_bytes, 32 * out_hashes)
+            && (changes.state || self.state == *state)
     }
 
     /// Of a refused call, a read, and any call on little memory a copy is kept to compare with.
@@ -473,8 +493,29 @@ impl Port {
         self.memory.aheads.len() < LITTLE
             || step.short != 0
             || step.call.reads()
+            || matches!(step.call, Call::Rates)
             || self.state.count == self.state.analog.capacity
     }
+}
+
+/// How many places of each list may have changed, from the first on; and what else may have.
+#[derive(Default)]
+struct Changes {
+    rows: usize,
+    hashes: usize,
+    out_heights: usize,
+    out_rates: usize,
+    out_sizes: usize,
+    out_hashes: usize,
+    windows: bool,
+    scratch: bool,
+    state: bool,
+}
+
+/// Whether a height is among the held ones.
+fn holds(state: &rattle::State, memory: &Memory, height: u32) -> bool {
+    let held = memory.heights.iter().skip(state.start).take(state.count);
+    held.copied().any(|held| held == height)
 }
 
 /// Two lists are the same from a place on.
@@ -671,7 +712,6 @@ macro_rules! rust_history {
                             |(h, bytes)| [&[u64::from(h)], &hash_words(&bytes)[..]].concat();
                         return hashes.flat_map(words).collect();
                     }
-                    Call::Rates if !READY => {}
                     Call::Rates => {
                         let rates = self.rates();
                         let rate = |n: &u32| [u64::from(rates[n].is_some()), rates[n].unwrap_or(0)];

@@ -1,7 +1,7 @@
 //! Both sides at the box's size. Each has its own history, and is given the same calls.
 
 use super::rattle::{self, Memory};
-use super::sides::{Call, Hash, Opening, Patched, Port, Side, block_hash, hash_bytes, marked};
+use super::sides::{Hash, Opening, Patched, Port, Side, block_hash, hash_bytes, marked};
 use crate::bench::Bench;
 use crate::parts::windows::inputs::{BOX_CAPACITY, BOX_HURDLES, BOX_TARGETS, CALM, Stretch};
 use crate::rng::Rng;
@@ -217,7 +217,8 @@ fn rate_rows(bench: &mut Bench) {
             |_| {
                 port.state.kept &= !fresh;
                 port.state.analog_stale |= stale;
-                port.called(&Call::Rates.into())
+                let update = rattle::rates(port.state, &mut all(&mut port.memory));
+                port.state = update.state;
             },
             |_| {
                 if fresh {
@@ -236,7 +237,5 @@ fn rate_rows(bench: &mut Bench) {
 pub fn rows(bench: &mut Bench) {
     insert_rows(bench);
     read_rows(bench);
-    if super::sides::READY {
-        rate_rows(bench);
-    }
+    rate_rows(bench);
 }
