@@ -670,7 +670,18 @@ fn put_both(
     befores: &mut [f64],
     aheads: &mut [u64],
 ) {
-    let s = tracking(rest, heights, marks, rates, sizes, kept, bytes, hurdles, befores, aheads);
+    let s = tracking(
+        rest,
+        heights,
+        marks,
+        rates,
+        sizes,
+        kept,
+        bytes,
+        hurdles,
+        befores,
+        aheads,
+    );
     let t = connect_all(
         s,
         rest,
@@ -684,10 +695,42 @@ fn put_both(
         befores,
         aheads,
     );
-    let u = preloaded(t, rest, heights, marks, rates, sizes, kept, bytes, hurdles, befores, aheads);
-    let v = put_rates(u, rest, heights, marks, rates, sizes, hurdles, befores, aheads);
+    let u = preloaded(
+        t,
+        rest,
+        heights,
+        marks,
+        rates,
+        sizes,
+        kept,
+        bytes,
+        hurdles,
+        befores,
+        aheads,
+    );
+    let v = put_rates(
+        u,
+        rest,
+        heights,
+        marks,
+        rates,
+        sizes,
+        hurdles,
+        befores,
+        aheads,
+    );
     put_space();
-    put_rates(v, rest, heights, marks, rates, sizes, hurdles, befores, aheads);
+    put_rates(
+        v,
+        rest,
+        heights,
+        marks,
+        rates,
+        sizes,
+        hurdles,
+        befores,
+        aheads,
+    );
     put_newline();
 }
 

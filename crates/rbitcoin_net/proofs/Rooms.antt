@@ -1,5 +1,5 @@
 -- A list with one element more among those that it held: the code's moves by the definition, and what stands where. Assumes nothing.
-use Prim.Native.Nat.{ℕ, zero, suc, _+_, _-_, _≤_, _<_}
+use Prim.Native.Nat.{ℕ, zero, suc, _+_, _-_, _/_, _≤_, _<_}
 use mathlib.Core.Path.{_≡_, refl, sym, _∙_, ap}
 use mathlib.Core.Bool.{Bool, true, false, cond}
 use mathlib.Core.List.{List, [], _∷_, _++_}
@@ -10,7 +10,7 @@ use lib.Seq.{getD-set-same, getD-set-other}
 use borrow.Author.Tests.{le-leb, lt-leb, lt-ltb, le-ltb, eq-eqb, ne-eqb, eqb-false}
 use Rattle.slices.specs.Lists.{tabulate, moved, copyWithin}
 use Rattle.slices.proofs.Runs.{copied, length-moved, moved-below, moved-in, moved-above}
-use Rattle.rbitcoin_net.specs.Rooms.{opened, startWith, Stored, stored, holdAt, Roomy}
+use Rattle.rbitcoin_net.specs.Rooms.{opened, freeOf, startWith, Stored, stored, holdAt, Roomy}
 use Rattle.rbitcoin_mempool.specs.declared.answer.Rate.{Rate}
 use Rattle.rbitcoin_mempool.specs.declared.answer.Rate.the-variants.{There, Missing}
 use Rattle.rbitcoin_mempool.specs.Rates.{given, markOf, numberOf}
@@ -117,7 +117,7 @@ module _ {A : Type 0} (xs : List A) (from to q r : ℕ) (source : from + q + r �
 -- where the rows start then, by the code's branches
 module _ (s : FeeHistory) (q : ℕ) where
   module _ (near : q < s .count - q) where
-    pub start-none-before : s .start ≡ 0 → s .analog .capacity - s .count - 1 ≡ startWith s q
+    pub start-none-before : s .start ≡ 0 → freeOf s - freeOf s / 4 - 1 ≡ startWith s q
     unfolding startWith
     start-none-before e = rw (lt-ltb _ _ near, eq-eqb _ _ e)
 
@@ -126,7 +126,7 @@ module _ (s : FeeHistory) (q : ℕ) where
     start-before n = rw (lt-ltb _ _ near, ne-eqb _ _ n)
 
   module _ (far : s .count - q ≤ q) where
-    pub start-none-behind : s .start + s .count ≡ s .analog .capacity → 0 ≡ startWith s q
+    pub start-none-behind : s .start + s .count ≡ s .analog .capacity → freeOf s / 4 ≡ startWith s q
     unfolding startWith
     start-none-behind e = rw (le-ltb _ _ far, eq-eqb _ _ e)
 
@@ -170,7 +170,7 @@ module _ (q h : ℕ) (b : HistoricalFeeBlock) (s : FeeHistory) (m : Rows) (p : R
   start-room = go (ltb q (s .count - q)) refl (eqb (s .start) 0) refl (eqb (s .start + s .count) (s .analog .capacity)) refl
     where
       go : (a : Bool) → ltb q (s .count - q) ≡ a → (c : Bool) → eqb (s .start) 0 ≡ c → (d : Bool) → eqb (s .start + s .count) (s .analog .capacity) ≡ d
-          → cond a (cond c (s .analog .capacity - s .count - 1) (s .start - 1)) (cond d 0 (s .start)) + s .count < s .analog .capacity
+          → cond a (cond c (freeOf s - freeOf s / 4 - 1) (s .start - 1)) (cond d (freeOf s / 4) (s .start)) + s .count < s .analog .capacity
       go true u true v d w = omega (arith, p .room)
       go true u false v d w = let n = eqb-false (s .start) 0 v in omega (arith, p .within, p .room)
       go false u c v true w = omega (arith, p .room)

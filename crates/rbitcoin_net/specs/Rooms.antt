@@ -1,5 +1,5 @@
 -- A row put in among the held rows: what it does to every place of one of their lists, and where the rows start then. Definitions only.
-use Prim.Native.Nat.{ℕ, _+_, _-_, _≤_, _<_}
+use Prim.Native.Nat.{ℕ, _+_, _-_, _/_, _≤_, _<_}
 use mathlib.Core.Bool.{cond}
 use mathlib.Core.List.{List}
 use lib.Dec.{leb, ltb, eqb}
@@ -18,12 +18,16 @@ unfoldable pub opened : {A : Type 0} → ℕ → ℕ → ℕ → ℕ → A → L
 opened from to q r v xs =
     set (cond (leb to from) (moved (moved xs to from q) (to + q + 1) (from + q) r) (moved (moved xs (to + q + 1) (from + q) r) to from q)) (to + q) v
 
--- where the rows start with one more at rank q: the nearer end moves by one; where that end has no room, all go to the other end of the memory
+-- the places that hold no row
+abbrev pub freeOf : FeeHistory → ℕ
+freeOf s = s .analog .capacity - s .count
+
+-- where the rows start with one more at rank q: the nearer end moves by one; where that end has no room, all move, so that three quarters of what is free lie there
 unfoldable pub startWith : FeeHistory → ℕ → ℕ
 startWith s q =
     cond (ltb q (s .count - q))
-    (cond (eqb (s .start) 0) (s .analog .capacity - s .count - 1) (s .start - 1))
-    (cond (eqb (s .start + s .count) (s .analog .capacity)) 0 (s .start))
+    (cond (eqb (s .start) 0) (freeOf s - freeOf s / 4 - 1) (s .start - 1))
+    (cond (eqb (s .start + s .count) (s .analog .capacity)) (freeOf s / 4) (s .start))
 
 -- a state with the lists of its rows
 pub record Stored : Type 0 where

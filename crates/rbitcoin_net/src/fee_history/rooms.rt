@@ -19,14 +19,15 @@ fn start_with(s: FeeHistory, q: usize) -> usize
     ensures { λ r. ⌜ (r ≡ startWith s q) × (r + s .count < s .analog .capacity) ⌝ }
 {
     let analog = s.analog;
+    let free = analog.capacity - s.count;
     if q < s.count - q {
         if s.start == 0 {
-            return analog.capacity - s.count - 1;
+            return free - free / 4 - 1;
         }
         return s.start - 1;
     }
     if s.start + s.count == analog.capacity {
-        return 0;
+        return free / 4;
     }
     s.start
 }
