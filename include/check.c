@@ -262,6 +262,31 @@ static void history(void) {
     CHECK(n.refusal == JULEYOMU_REFUSAL_MEMORY);
 }
 
+/* Four blocks are too few for a rate; output lists and scratch are asked for. */
+static void rates_of_a_short_history(void) {
+    static Memory lent;
+    Memory *m = &lent;
+    JuleyomuHistoryFields h =
+        juleyomu_history_new(1000, targets, TARGETS, CAPACITY, ROWS(m), HASHES(m), WINDOWS(m));
+    for (uint32_t height = 10; height < 14; height++) {
+        h = connect(h.state, m, height, 1000);
+    }
+    uint64_t scratch[CAPACITY], numbers[TARGETS] = {7, 7};
+    uint8_t marks[TARGETS] = {7, 7};
+    h = juleyomu_history_rates(h.state, ROWS(m), WINDOWS(m), scratch, CAPACITY, numbers, TARGETS, marks, 1);
+    CHECK(h.refusal == JULEYOMU_REFUSAL_LENGTHS);
+    h = juleyomu_history_rates(h.state, ROWS(m), WINDOWS(m), scratch, CAPACITY, numbers, 1, marks, 1);
+    CHECK(h.refusal == JULEYOMU_REFUSAL_MEMORY);
+    h = juleyomu_history_rates(h.state, ROWS(m), WINDOWS(m), scratch, CAPACITY - 1, numbers, TARGETS, marks,
+                               TARGETS);
+    CHECK(h.refusal == JULEYOMU_REFUSAL_MEMORY && !h.state.kept);
+    CHECK(numbers[0] == 7 && numbers[1] == 7 && marks[0] == 7 && marks[1] == 7);
+    h = juleyomu_history_rates(h.state, ROWS(m), WINDOWS(m), scratch, CAPACITY, numbers, TARGETS, marks,
+                               TARGETS);
+    CHECK(h.refusal == JULEYOMU_DONE && h.state.kept && h.state.count == 4);
+    CHECK(numbers[0] == 0 && numbers[1] == 0 && marks[0] == 0 && marks[1] == 0);
+}
+
 int main(void) {
     cases_a_to_d();
     cases_e_and_f();
@@ -270,6 +295,7 @@ int main(void) {
     one_depth();
     meter();
     history();
+    rates_of_a_short_history();
     if (failures == 0) {
         puts("all checks passed");
     }
