@@ -8,7 +8,7 @@ use Rattle.slices.specs.Lists.{tabulate}
 use Rattle.rbitcoin_mempool.specs.declared.answer.Rate.the-variants.{There, Missing}
 use Rattle.rbitcoin_net.specs.declared.fee_history.HistoricalFeeBlock.{HistoricalFeeBlock}
 use Rattle.rbitcoin_net.specs.Map.{Entry, entry, retain, below, above, onward, get, remove, insert, lastKey}
-use Rattle.rbitcoin_net.specs.History.{History, new, forget, forgetAll, next, truncateAbove, newest, evictOne, evictBlocks, evict, hold, insertOf, insertIfAbsentOf, hurdlesOf, rebuilt, ratesOf, afterRates}
+use Rattle.rbitcoin_net.specs.History.{History, new, forget, forgetAll, next, truncateAbove, newest, evictOne, evictBlocks, evict, hold, insertOf, insertIfAbsentOf, hurdlesOf, rebuilt}
 
 -- a block of n bytes, with a rate and without
 abbrev rated : ℕ → ℕ → HistoricalFeeBlock
@@ -17,7 +17,7 @@ rated r n = record { «p10_sat_kvb» = There r; «txstat_bytes» = n }
 abbrev blank : ℕ → HistoricalFeeBlock
 blank n = record { «p10_sat_kvb» = Missing; «txstat_bytes» = n }
 
--- a history of a budget of 1,000 with these blocks of 10 bytes each, these hurdles, the mark and the kept rates
+-- a history of a budget of 1,000 with these blocks, total, hurdles, mark and kept rates
 abbrev over : List (Entry HistoricalFeeBlock) → ℕ → List ℕ → Bool → Option (List (Option ℕ)) → History
 over bs total hs stale rs = record { blocks = bs; total = total; budget = 1000; targets = []; hashes = []; hurdles = hs; stale = stale; rates = rs }
 
@@ -78,7 +78,7 @@ pub cut-clears : truncateAbove 30 (over ends 30 (5 ∷ []) false (some [])) ≡ 
 unfolding retain below onward forgetAll next truncateAbove
 cut-clears = refl
 
--- 144 hashes from height 100 on, of blocks that are held
+-- 144 hashes from height 100 on
 abbrev hashed : ℕ → Entry (List ℕ)
 hashed i = entry (i + 100) (i ∷ [])
 

@@ -180,13 +180,3 @@ ratesOf x = answered (x .rates) x
 
 unfoldable pub afterRates : History → History
 afterRates x = keep (x .rates) x
-
--- `entries`, `recent_hashes` and `get`
-abbrev pub entriesOf : History → List (Entry HistoricalFeeBlock)
-entriesOf x = x .blocks
-
-abbrev pub recentHashesOf : History → List (Entry (List ℕ))
-recentHashesOf x = x .hashes
-
-abbrev pub getOf : ℕ → History → Option HistoricalFeeBlock
-getOf h x = get h (x .blocks)
