@@ -368,6 +368,23 @@ fn read_targets(rest: &[u8], out: &mut [u32]) -> usize
     n
 }
 
+fn put_replayed(
+    after: Replayed,
+    heights: &[u32],
+    marks: &[u8],
+    rates: &[u64],
+    sizes: &[u64],
+    kept: &[u32],
+    bytes: &[u8],
+) {
+    let s = after.state;
+    put(after.digest);
+    put_state(s);
+    put_entries(s, heights, marks, rates, sizes);
+    put_hashes(s, kept, bytes);
+    put_newline();
+}
+
 fn opened(
     rest: &[u8],
     heights: &[u32],
@@ -439,12 +456,7 @@ fn replay(
         befores,
         aheads,
     );
-    let s = after.state;
-    put(after.digest);
-    put_state(s);
-    put_entries(s, heights, marks, rates, sizes);
-    put_hashes(s, kept, bytes);
-    put_newline();
+    put_replayed(after, heights, marks, rates, sizes, kept, bytes);
 }
 
 fn calls(rest: &[u8]) {
@@ -659,6 +671,43 @@ fn put_rates(
 
 // Fresh rates, then kept ones.
 fn put_both(
+    s: FeeHistory,
+    rest: &[u8],
+    heights: &[u32],
+    marks: &[u8],
+    rates: &[u64],
+    sizes: &[u64],
+    hurdles: &mut [u64],
+    befores: &mut [f64],
+    aheads: &mut [u64],
+) {
+    let fresh = put_rates(
+        s,
+        rest,
+        heights,
+        marks,
+        rates,
+        sizes,
+        hurdles,
+        befores,
+        aheads,
+    );
+    put_space();
+    put_rates(
+        fresh,
+        rest,
+        heights,
+        marks,
+        rates,
+        sizes,
+        hurdles,
+        befores,
+        aheads,
+    );
+    put_newline();
+}
+
+fn filled(
     rest: &[u8],
     heights: &mut [u32],
     marks: &mut [u8],
@@ -669,7 +718,7 @@ fn put_both(
     hurdles: &mut [u64],
     befores: &mut [f64],
     aheads: &mut [u64],
-) {
+) -> FeeHistory {
     let s = tracking(
         rest,
         heights,
@@ -682,7 +731,7 @@ fn put_both(
         befores,
         aheads,
     );
-    let t = connect_all(
+    connect_all(
         s,
         rest,
         heights,
@@ -694,9 +743,22 @@ fn put_both(
         hurdles,
         befores,
         aheads,
-    );
-    let u = preloaded(
-        t,
+    )
+}
+
+fn preloaded_too(
+    rest: &[u8],
+    heights: &mut [u32],
+    marks: &mut [u8],
+    rates: &mut [u64],
+    sizes: &mut [u64],
+    kept: &mut [u32],
+    bytes: &mut [u8],
+    hurdles: &mut [u64],
+    befores: &mut [f64],
+    aheads: &mut [u64],
+) -> FeeHistory {
+    let s = filled(
         rest,
         heights,
         marks,
@@ -708,8 +770,47 @@ fn put_both(
         befores,
         aheads,
     );
-    let v = put_rates(
-        u,
+    preloaded(
+        s,
+        rest,
+        heights,
+        marks,
+        rates,
+        sizes,
+        kept,
+        bytes,
+        hurdles,
+        befores,
+        aheads,
+    )
+}
+
+fn put_rated(
+    rest: &[u8],
+    heights: &mut [u32],
+    marks: &mut [u8],
+    rates: &mut [u64],
+    sizes: &mut [u64],
+    kept: &mut [u32],
+    bytes: &mut [u8],
+    hurdles: &mut [u64],
+    befores: &mut [f64],
+    aheads: &mut [u64],
+) {
+    let s = preloaded_too(
+        rest,
+        heights,
+        marks,
+        rates,
+        sizes,
+        kept,
+        bytes,
+        hurdles,
+        befores,
+        aheads,
+    );
+    put_both(
+        s,
         rest,
         heights,
         marks,
@@ -719,19 +820,6 @@ fn put_both(
         befores,
         aheads,
     );
-    put_space();
-    put_rates(
-        v,
-        rest,
-        heights,
-        marks,
-        rates,
-        sizes,
-        hurdles,
-        befores,
-        aheads,
-    );
-    put_newline();
 }
 
 // A history of two targets.
@@ -777,7 +865,7 @@ fn rates(rest: &[u8]) {
     let mut hurdles = [0u64; 2304];
     let mut befores = [0.0; 4608];
     let mut aheads = [0u64; 4608];
-    put_both(
+    put_rated(
         rest,
         &mut heights,
         &mut marks,
