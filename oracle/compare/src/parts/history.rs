@@ -62,10 +62,12 @@ impl Words for Told {
     }
 }
 
-/// Two lists that differ in one word have different digests.
-fn digest(history: &impl Side) -> u64 {
+/// Two lists that differ in one word have different digests. Of a history, with or without its pairs.
+fn digest(history: &impl Side, with_pairs: bool) -> u64 {
     let mut words = history.state().words();
-    history.pairs().write(&mut words);
+    if with_pairs {
+        history.pairs().write(&mut words);
+    }
     let mix = |digest: u64, word: &Word| {
         let mixed = (digest ^ word.bits()).wrapping_mul(0x9E37_79B9_7F4A_7C15);
         mixed.rotate_left(29)
@@ -75,14 +77,14 @@ fn digest(history: &impl Side) -> u64 {
 
 fn told<S: Side>((opening, steps): &Case) -> Told {
     let (mut history, reply) = S::open(opening);
-    let mut after = vec![(reply, digest(&history))];
-    // Of thousands of blocks that come first a digest is made now and then.
+    let mut after = vec![(reply, digest(&history, true))];
+    // While the thousands of blocks come that a story begins with, the pairs are read now and then.
     let few = steps.len() < 1_000;
     let filled = steps.len() - steps.len().min(400);
     for (place, step) in steps.iter().enumerate() {
         let reply = history.step(step);
         let is_watched = few || place >= filled || place % 64 == 0;
-        after.push((reply, if is_watched { digest(&history) } else { 0 }));
+        after.push((reply, digest(&history, is_watched)));
     }
     Told {
         after,
