@@ -143,7 +143,8 @@ impl History {
         heights.into_iter().zip(hashes.iter().copied()).collect()
     }
 
-    /// The bytes of the held blocks, while their sum fits a u64.
+    /// The kept byte total: the sum over the held blocks, as long as that sum has always fitted a u64, before each
+    /// eviction too.
     #[must_use]
     pub fn byte_total(&self) -> u64 {
         self.state.txstat_bytes

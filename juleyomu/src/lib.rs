@@ -1,4 +1,4 @@
-//! Fee rates for batches of payouts, quoted beside a Bitcoin node.
+//! Fee rates to confirm within N blocks, quoted beside a Bitcoin node.
 //!
 //! A safe wrapper over `libexports.a`, the proved port of rbitcoin's fee code. The port allocates nothing: it works in
 //! memory that its caller lends. Here the types own that memory.
