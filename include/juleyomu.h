@@ -295,7 +295,7 @@ JuleyomuCountFields juleyomu_windows_pairs(JuleyomuAnalogHistory state, uint32_t
 
 /* The rate (sat/kvB) that a share `confidence` of the windows like now asked for within n blocks; no rate
  * under 2,000 pairs, for a target that is not tracked, or where `confidence` is NaN or outside 0 to 1.
- * `scratch` has `capacity` places and is overwritten. Refuses 3, 5. */
+ * `scratch` has `capacity` places, which may be overwritten where there is a rate. Refuses 3, 5. */
 JuleyomuRateFields juleyomu_windows_rate_sat_kvb(JuleyomuAnalogHistory state, uint32_t n,
                                                  double confidence, const uint64_t *hurdles,
                                                  size_t hurdles_len, const double *befores,
@@ -352,7 +352,8 @@ JuleyomuHistoryFields juleyomu_history_truncate_above(
     const uint8_t *hash_bytes, size_t hash_bytes_len);
 
 /* The historical rate (sat/kvB) for each target, in their order; missing while a target has under 2,000
- * pairs. `scratch` has `capacity` places and is overwritten. Refuses 1 (output numbers and marks), 3, 5. */
+ * pairs. `scratch` has `capacity` places, which may be overwritten where there is a rate. Refuses 1 (output
+ * numbers and marks), 3, 5. */
 JuleyomuHistoryFields juleyomu_history_rates(JuleyomuFeeHistory state, const uint32_t *heights,
                                              size_t heights_len, const uint8_t *marks, size_t marks_len,
                                              const uint64_t *rates, size_t rates_len,
@@ -425,8 +426,8 @@ uint8_t juleyomu_published_depth_rates(
 uint64_t juleyomu_lerp_sat_kvb(uint32_t d0, uint64_t left, uint32_t d1, uint64_t right, uint32_t target);
 
 /* The quote (sat/kvB) for a target in blocks, from the depths and their published rates; no rate for a
- * target below every depth with a rate, or where there are no depths or not as many as rates. Refuses 1
- * (rates and marks), 8, 2. */
+ * target below every depth with a rate, or, after refusal 1 and before 8 and 2, where there are no depths
+ * or not as many as rates. Refuses 1 (rates and marks), 8, 2. */
 JuleyomuRateFields juleyomu_fee_at_target_sat_kvb(const uint32_t *depths, size_t depths_len,
                                                   const uint64_t *rates, size_t rates_len,
                                                   const uint8_t *marks, size_t marks_len,

@@ -111,7 +111,8 @@ impl Board {
         self.rates.rates()
     }
 
-    /// The quote for a target in blocks, as [`fee_at_target`]. No target is quoted above a nearer one.
+    /// The quote for a target in blocks, as [`fee_at_target`]. No target is quoted above a nearer one
+    /// (proved for rates up to 2^50 sat/kvB).
     #[must_use]
     pub fn quote(&self, target: u32) -> Option<u64> {
         let found = ffi::fee_at_target(&self.depths, &self.rates, target);

@@ -3,15 +3,15 @@ use Prim.Native.Nat.{ℕ, zero, suc}
 use mathlib.Core.Path.{_≡_, ap, sym, _∙_}
 use Rattle.rbitcoin_mempool.specs.Outcome.{Verdict, verdictOf}
 use Rattle.rbitcoin_mempool.specs.Counted.{Counted, countedOf}
-use Rattle.exports.specs.Updates.{numberOf, countRefusal, countNumber}
+use Rattle.exports.specs.Updates.{verdictNumber, countRefusal, countNumber}
 
-pub number-is : (k : ℕ) (v : Verdict) → v ≡ verdictOf k → numberOf v ≡ k
+pub number-is : (k : ℕ) (v : Verdict) → v ≡ verdictOf k → verdictNumber v ≡ k
 unfolding verdictOf
-number-is zero v e = ap numberOf e
-number-is (suc k) v e = ap numberOf e
+number-is zero v e = ap verdictNumber e
+number-is (suc k) v e = ap verdictNumber e
 
 -- the verdict of a verdict's number
-pub verdict-back : (k : ℕ) (v : Verdict) → v ≡ verdictOf k → v ≡ verdictOf (numberOf v)
+pub verdict-back : (k : ℕ) (v : Verdict) → v ≡ verdictOf k → v ≡ verdictOf (verdictNumber v)
 verdict-back k v e = e ∙ sym (ap verdictOf (number-is k v e))
 
 -- the count of a count's two numbers

@@ -4,9 +4,9 @@ use Rattle.rbitcoin_mempool.specs.Outcome.{Verdict, done, refused}
 use Rattle.rbitcoin_mempool.specs.Counted as counts
 
 -- the refusal's number or 0
-abbrev pub numberOf : Verdict → ℕ
-numberOf done = 0
-numberOf (refused k) = k
+abbrev pub verdictNumber : Verdict → ℕ
+verdictNumber done = 0
+verdictNumber (refused k) = k
 
 -- the same of a count, and the count or 0
 abbrev pub countRefusal : counts.Counted → ℕ

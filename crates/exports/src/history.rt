@@ -13,7 +13,7 @@ ghost use Rattle.rbitcoin_net.specs.Readers.{Entries, RecentHashes};
 ghost use Rattle.rbitcoin_net.specs.Search.{looked, getIn};
 ghost use Rattle.exports.specs.Blocks.{blockOf, BlockIs};
 ghost use Rattle.exports.specs.Updates.{countNumber};
-ghost use Rattle.exports.specs.Updates.{numberOf as refusalOf};
+ghost use Rattle.exports.specs.Updates.{verdictNumber};
 use crate::windows::CountFields;
 use crate::windows::count_fields;
 use crate::windows::number_of;
@@ -115,7 +115,7 @@ fn block_fields(a: BlockAnswer) -> BlockFields
 }
 
 fn history_fields(u: HistoryUpdate) -> HistoryFields
-    ensures { λ r. ⌜ (r .refusal ≡ refusalOf (verdict (u .outcome))) × (r .state ≡ u .state) ⌝ }
+    ensures { λ r. ⌜ (r .refusal ≡ verdictNumber (verdict (u .outcome))) × (r .state ≡ u .state) ⌝ }
 {
     let outcome = u.outcome;
     let state = u.state;

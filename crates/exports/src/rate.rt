@@ -12,7 +12,7 @@ pub struct RateFields {
     pub rate: u64,
 }
 
-pub fn rate_fields(a: RateAnswer) -> RateFields
+pub(crate) fn rate_fields(a: RateAnswer) -> RateFields
     ensures { λ r. ⌜ Fields (answer a) (r .refusal) (r .mark) (r .rate) ⌝ }
 {
     match a {

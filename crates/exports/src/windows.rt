@@ -10,7 +10,7 @@ ghost use Rattle.rbitcoin_mempool.specs.Quantile.{historicalConfidenceFar, logQ
 ghost use Rattle.rbitcoin_mempool.specs.Windows.{windows, openRefusal, opened, stateRefusal, pushRefusalOf, pushBackOf, pushFrontOf, popBackOf, popFrontOf, rebuildRefusalOf, rebuiltOf, pairCount};
 ghost use Rattle.rbitcoin_mempool.specs.Scan.{rateSatKvb, ScratchAfter};
 ghost use Rattle.exports.specs.Fields.{Fields};
-ghost use Rattle.exports.specs.Updates.{numberOf, countRefusal, countNumber};
+ghost use Rattle.exports.specs.Updates.{verdictNumber, countRefusal, countNumber};
 use crate::rate::RateFields;
 use crate::rate::rate_fields;
 use rbitcoin_mempool::answer::CountAnswer;
@@ -34,7 +34,7 @@ pub struct CountFields {
 }
 
 pub(crate) fn number_of(o: Outcome) -> u8
-    ensures { λ r. ⌜ r ≡ numberOf (verdict o) ⌝ }
+    ensures { λ r. ⌜ r ≡ verdictNumber (verdict o) ⌝ }
 {
     match o {
         Outcome::Done => 0,
@@ -43,7 +43,7 @@ pub(crate) fn number_of(o: Outcome) -> u8
 }
 
 fn update_fields(u: Update) -> UpdateFields
-    ensures { λ r. ⌜ (r .refusal ≡ numberOf (verdict (u .outcome))) × (r .state ≡ u .state) ⌝ }
+    ensures { λ r. ⌜ (r .refusal ≡ verdictNumber (verdict (u .outcome))) × (r .state ≡ u .state) ⌝ }
 {
     let outcome = u.outcome;
     let state = u.state;

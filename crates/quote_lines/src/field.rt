@@ -48,8 +48,8 @@ fn first_byte(b: u8) -> Field
     digits_on(0, b)
 }
 
-// One byte more, which is no space and no newline.
-pub fn grown(f: Field, b: u8) -> Field
+// One byte more. A space and a newline count as any other byte: a caller ends the field there.
+pub(crate) fn grown(f: Field, b: u8) -> Field
     ensures { λ r. ⌜ r ≡ Machine·grown f b ⌝ }
 {
     match f {

@@ -83,7 +83,7 @@ fn target_of(f: Field) -> Line
 }
 
 // One field more.
-pub fn next(l: Line, f: Field) -> Line
+pub(crate) fn next(l: Line, f: Field) -> Line
     ensures { λ r. ⌜ r ≡ Machine·next l f ⌝ }
 {
     match l {
