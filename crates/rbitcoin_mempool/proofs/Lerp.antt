@@ -1,7 +1,7 @@
 -- The straight line in two words: its numerator fits, its quotient is one word. Assumes nothing.
 use mathlib.Core.Path.{_≡_, sym, ap, _∙_, subst}
 use Prim.Native.Nat.{ℕ, _+_, _-_, _*_, _/_, _%_, _^_, _≤_, _<_, min, max}
-use native.Mathlib.Nat.{mul-le-mul-right, mod-lt, div-lt-iff-lt-mul, lt-of-le-of-lt}
+use native.Mathlib.Nat.{mul-add, mul-le-mul-right, sub-add-cancel, mod-lt, div-lt-iff-lt-mul, lt-of-le-of-lt, lt-trans}
 use native.Mathlib.Omega.{arith}
 use borrow.Author.Tests.{le-leb, lt-leb, ne-eqb}
 use Rattle.num.specs.declared.wide.Wide.{Wide}
@@ -10,19 +10,58 @@ use Rattle.num.specs.Wide.{value, wrappingSum, divided}
 use Rattle.num.proofs.WideLaws.{small-sum, divided-by, quotient-word}
 use Rattle.rbitcoin_mempool.specs.Target.{nearestQuotient, lerpSatKvb}
 
+-- the numerator is at most the greater rate times the span
+line-top : (m left right dist span : ℕ) → left ≤ m → right ≤ m → dist ≤ span → left * (span - dist) + right * dist ≤ m * span
+line-top m left right dist span l r d =
+    let a : left * (span - dist) ≤ m * (span - dist) = mul-le-mul-right (span - dist) l in
+    let b : right * dist ≤ m * dist = mul-le-mul-right dist r in
+    let e : m * (span - dist) + m * dist ≡ m * span = sym (mul-add m (span - dist) dist) ∙ ap (λ (z : ℕ). m * z) (sub-add-cancel d) in
+    omega arith
+
+-- of rates below 2^32 it is one word
+module _ (left right dist span : ℕ) (d : dist ≤ span) (p : 0 < span) (s : span < 2 ^ 32) (l : left < 2 ^ 32) (r : right < 2 ^ 32) where
+  abbrev numerator : ℕ
+  numerator = left * (span - dist) + right * dist
+
+  short-top : numerator ≤ (2 ^ 32 - 1) * span
+  short-top = line-top (2 ^ 32 - 1) left right dist span (omega arith) (omega arith) d
+
+  pub short-fits : numerator < 2 ^ 64
+  short-fits = lt-of-le-of-lt short-top (bound span s)
+    where
+      bound : (span : ℕ) → span < 2 ^ 32 → (2 ^ 32 - 1) * span < 2 ^ 64
+      bound span s = omega arith
+
+  pub short-quotient : numerator / span < 2 ^ 32
+  short-quotient = div-lt-iff-lt-mul p .1 (lt-of-le-of-lt short-top (more span p))
+    where
+      more : (span : ℕ) → 0 < span → (2 ^ 32 - 1) * span < 2 ^ 32 * span
+      more span p = omega arith
+
+  pub short-remainder : numerator % span < 2 ^ 32
+  short-remainder = lt-trans (mod-lt numerator p) s
+
+  pub short-up : span ≤ numerator % span * 2 → numerator / span + 1 ≡ min (nearestQuotient numerator span) (2 ^ 64 - 1)
+  unfolding nearestQuotient
+  short-up h = rw (le-leb span (numerator % span * 2) h) (capped (numerator / span) short-quotient)
+    where
+      capped : (q : ℕ) → q < 2 ^ 32 → q + 1 ≡ min (q + 1) (2 ^ 64 - 1)
+      capped q l = omega arith
+
+  pub short-down : numerator % span * 2 < span → numerator / span ≡ min (nearestQuotient numerator span) (2 ^ 64 - 1)
+  unfolding nearestQuotient
+  short-down h = rw (lt-leb span (numerator % span * 2) h) (capped (numerator / span) short-quotient)
+    where
+      capped : (q : ℕ) → q < 2 ^ 32 → q ≡ min q (2 ^ 64 - 1)
+      capped q l = omega arith
+
 -- the numerator is at most the largest u64 times the span
 module _ (left right dist span : ℕ) (l : left < 2 ^ 64) (r : right < 2 ^ 64) (d : dist ≤ span) (p : 0 < span) (s : span < 2 ^ 32) where
   abbrev numer : ℕ
   numer = left * (span - dist) + right * dist
 
   top : numer ≤ (2 ^ 64 - 1) * span
-  top =
-      let a : left * (span - dist) ≤ (2 ^ 64 - 1) * (span - dist) = mul-le-mul-right (span - dist) (omega arith) in
-      let b : right * dist ≤ (2 ^ 64 - 1) * dist = mul-le-mul-right dist (omega arith) in
-      sum a b
-    where
-      sum : left * (span - dist) ≤ (2 ^ 64 - 1) * (span - dist) → right * dist ≤ (2 ^ 64 - 1) * dist → numer ≤ (2 ^ 64 - 1) * span
-      sum a b = omega arith
+  top = line-top (2 ^ 64 - 1) left right dist span (omega arith) (omega arith) d
 
   fits : numer < 2 ^ 126
   fits = lt-of-le-of-lt top (bound span s)

@@ -7,7 +7,7 @@ use native.Mathlib.Nat.{le-refl, le-trans, le-of-suc-le-suc, not-suc-le-zero, eq
 use native.Mathlib.Numerals.{add-one}
 use native.Mathlib.Omega.{arith}
 use mathlib.Core.Logic.{inl, inr}
-use mathlib.Core.Bool.{Bool, true, false, cond}
+use mathlib.Core.Bool.{Bool, true, false, cond, _&&_}
 use lib.Dec.{leb}
 use lib.ListN.{length, getD, set, take, length-set}
 use lib.Seq.{take-suc, ext-getD, getD-set-same, getD-set-other}
@@ -15,6 +15,7 @@ use borrow.Author.Tests.{eq-eqb, ne-eqb, leb-true, leb-false, le-leb}
 use Rattle.slices.specs.Search.{seek}
 use Rattle.slices.proofs.Search.{sought}
 use Rattle.slices.specs.Lists.{tabulate}
+use Rattle.slices.specs.Every.{every}
 use Rattle.slices.proofs.Every.{every-at}
 use Rattle.slices.proofs.Lists.{tabulate-is, tabulate-at, tabulate-length}
 use Rattle.rbitcoin_mempool.specs.Rates.{rateAt, ratesOf, marksValid, markOf, numberOr, marksOf, numbersOver}
@@ -127,6 +128,24 @@ hold-end ns ms numbers marks found best i h l =
       ext-getD 0 marks (marksOf T) (h .marks-length ∙ sym size)
           (λ k m. let q : k < n = omega (arith, h .marks-length) in h .done k (omega arith) .1 ∙ ap markOf (sym (tabulate-at (λ j. upTo (rateAt ns ms) (suc j)) none n k q)) ∙ sym (map-at markOf T none 0 refl k)),
     )
+
+-- ---- a test of every place as a flag that a loop clears where the test fails
+and-true : (a b : Bool) → b ≡ true → a ≡ (a && b)
+and-true true b e = sym e
+and-true false b e = refl
+
+and-false : (a b : Bool) → b ≡ false → false ≡ (a && b)
+and-false true b e = sym e
+and-false false b e = refl
+
+module _ (p : ℕ → Bool) (n : ℕ) where
+  pub flag-kept : (b : Bool) → b ≡ every p n → p n ≡ true → b ≡ every p (n + 1)
+  unfolding every
+  flag-kept b e h = e ∙ rw add-one (and-true (every p n) (p n) h)
+
+  pub flag-cleared : p n ≡ false → false ≡ every p (n + 1)
+  unfolding every
+  flag-cleared h = rw add-one (and-false (every p n) (p n) h)
 
 pub mark-at : (ms : List ℕ) (i : ℕ) → marksValid ms ≡ true → i < length ms → getD ms i 0 ≤ 1
 unfolding marksValid

@@ -9,32 +9,34 @@ ghost use Rattle.rbitcoin_mempool.specs.Hold.{enforceMonotoneDesc, holdD
 use crate::answer::Outcome;
 use crate::answer::Rate;
 
-// Whether each mark is 0 or 1.
+// Whether each mark is 0 or 1. The loop has no early exit, so that the compiler can test many at once.
 pub(crate) fn marks_valid(marks: &[u8]) -> bool
     ensures { λ r. ⌜ r ≡ marksValid (now (marks .entry)) ⌝ }
 {
+    let mut valid = true;
     let mut i = 0;
     while i < marks.len() {
         if marks[i] > 1 {
-            return false;
+            valid = false;
         }
         i += 1;
     }
-    true
+    valid
 }
 
-// Whether no depth is less than the one before it.
+// Whether no depth is less than the one before it, with no early exit either.
 pub(crate) fn never_descends(depths: &[u32]) -> bool
     ensures { λ r. ⌜ r ≡ neverDescends (now (depths .entry)) ⌝ }
 {
-    let mut i: usize = 1;
-    while i < depths.len() {
-        if depths[i] < depths[i - 1] {
-            return false;
+    let mut keeps = true;
+    let mut i: usize = 0;
+    while i + 1 < depths.len() {
+        if depths[i + 1] < depths[i] {
+            keeps = false;
         }
         i += 1;
     }
-    true
+    keeps
 }
 
 // The rate at a place of numbers with marks.

@@ -25,7 +25,20 @@ fn held_between(left: u64, right: u64, quote: u64) -> u64
 }
 
 // left·(span - dist) + right·dist over span, to the nearest, halves up; the largest u64 where that is less.
-fn line_over(left: u64, right: u64, dist: u64, span: u64) -> u64
+// Rates below 2^32 need no second word.
+fn line_short(left: u64, right: u64, dist: u64, span: u64) -> u64
+    requires { ⌜ (dist ≤ span) × (0 < span) × (span < 2 ^ 32) × (left < 2 ^ 32) × (right < 2 ^ 32) ⌝ }
+    ensures { λ r. ⌜ r ≡ min (nearestQuotient (left * (span - dist) + right * dist) span) (2 ^ 64 - 1) ⌝ }
+{
+    let numer = left * (span - dist) + right * dist;
+    let quotient = numer / span;
+    if span <= numer % span * 2 {
+        return quotient + 1;
+    }
+    quotient
+}
+
+fn line_wide(left: u64, right: u64, dist: u64, span: u64) -> u64
     requires { ⌜ (dist ≤ span) × (0 < span) × (span < 2 ^ 32) ⌝ }
     ensures { λ r. ⌜ r ≡ min (nearestQuotient (left * (span - dist) + right * dist) span) (2 ^ 64 - 1) ⌝ }
 {
@@ -39,6 +52,18 @@ fn line_over(left: u64, right: u64, dist: u64, span: u64) -> u64
         return num::word::saturating_add(quotient.lo, 1);
     }
     quotient.lo
+}
+
+fn line_over(left: u64, right: u64, dist: u64, span: u64) -> u64
+    requires { ⌜ (dist ≤ span) × (0 < span) × (span < 2 ^ 32) ⌝ }
+    ensures { λ r. ⌜ r ≡ min (nearestQuotient (left * (span - dist) + right * dist) span) (2 ^ 64 - 1) ⌝ }
+{
+    if left < 4294967296 {
+        if right < 4294967296 {
+            return line_short(left, right, dist, span);
+        }
+    }
+    line_wide(left, right, dist, span)
 }
 
 // `left` at d0, `right` at d1, the straight line at `target` in between, to the nearest sat/kvB,
@@ -69,22 +94,21 @@ fn last_there(numbers: &[u64], marks: &[u8], n: usize) -> Rate
     Rate::Missing
 }
 
-// The first depth at or above the target, by halving.
+// The first depth at or above the target, by halving. Of `size` places from `base` on the middle one
+// is read; `less` is 0 or 1, and no branch hangs on it, since none could be foretold.
 fn first_at(depths: &[u32], target: u32) -> usize
     requires { ⌜ neverDescends (now depths) ≡ true ⌝ }
     ensures { λ r. ⌜ r ≡ seek (λ i. leb target (getD (now (depths .entry)) i 0)) 0 (length (now (depths .entry))) ⌝ }
 {
-    let mut lo: usize = 0;
-    let mut hi = depths.len();
-    while lo < hi {
-        let mid = lo + (hi - lo) / 2;
-        if depths[mid] < target {
-            lo = mid + 1;
-        } else {
-            hi = mid;
-        }
+    let mut base: usize = 0;
+    let mut size = depths.len();
+    while size > 0 {
+        let half = size / 2;
+        let less = (depths[base + half] < target) as usize;
+        base += less * (half + 1);
+        size = (size - less) / 2;
     }
-    lo
+    base
 }
 
 // Between the depth before i and the one at i.

@@ -1,26 +1,35 @@
--- `fee_est::hold::never_descends` meets its contract. The loop has seen no descent so far. Assumes nothing.
+-- `fee_est::hold::never_descends` meets its contract. The loop keeps whether no depth so far is less than the one before it. Assumes nothing.
 use borrow.Author.Needs.{needs}
 use native.Mathlib.Omega.{arith}
-use mathlib.Core.Path.{_≡_, sym, subst}
-use Prim.Native.Nat.{ℕ, suc, _-_, _≤_, _<_}
+use native.Mathlib.Numerals.{add-one}
+use mathlib.Core.Path.{_≡_, refl, sym, _∙_, ap}
 use mathlib.Core.Logic.{inl, inr}
-use native.Mathlib.Nat.{eq-or-lt-of-le}
+use mathlib.Core.Bool.{Bool}
+use Prim.Native.Nat.{ℕ, suc, _-_, _≤_}
 use borrow.Author.Tests.{le-leb, lt-leb}
 use lib.Dec.{leb}
 use lib.ListN.{length, getD}
-use Rattle.slices.proofs.Every.{every-true, every-false}
+use Rattle.slices.specs.Every.{every}
 use Rattle.rbitcoin_mempool.specs.Hold.{neverDescends}
+use Rattle.rbitcoin_mempool.proofs.Passes.{flag-kept, flag-cleared}
 use Rattle.rbitcoin_mempool.proofs.fee_est.hold.never_descends.Statement.{statement}
 use Rattle.rbitcoin_mempool.proofs.fee_est.hold.never_descends.Tie as tie
 
 abbrev Inv-loop : tie.InvT-loop
-Inv-loop depths i₀ i = (1 ≤ i) × ((k : ℕ) → suc k < i → getD depths k 0 ≤ getD depths (suc k) 0)
+Inv-loop depths keeps₀ i₀ keeps i = (i ≤ length depths - 1) × (keeps ≡ every (λ k. leb (getD depths k 0) (getD depths (suc k) 0)) i)
 
 abbrev μ-loop : tie.MeasureT-loop
-μ-loop depths i₀ i = length depths - i
+μ-loop depths keeps₀ i₀ keeps i = length depths - i
 
 loop-holds : tie.Need-loop-holds Inv-loop μ-loop
-loop-holds c = (search needs, λ k l. absurd (omega arith))
+unfolding every
+loop-holds c = (omega arith, refl)
+
+add-loop : tie.Need-add-loop Inv-loop μ-loop
+add-loop c = search needs
+
+add-if1 : tie.Need-add-if1 Inv-loop μ-loop
+add-if1 c = search needs
 
 mul-if1 : tie.Need-mul-if1 Inv-loop μ-loop
 mul-if1 c = search needs
@@ -28,23 +37,11 @@ mul-if1 c = search needs
 shared-slice-read-if1 : tie.Need-shared-slice-read-if1 Inv-loop μ-loop
 shared-slice-read-if1 c = search needs
 
-sub-if1 : tie.Need-sub-if1 Inv-loop μ-loop
-sub-if1 c = search needs
-
 mul-if1-2 : tie.Need-mul-if1-2 Inv-loop μ-loop
 mul-if1-2 c = search needs
 
 shared-slice-read-if1-2 : tie.Need-shared-slice-read-if1-2 Inv-loop μ-loop
 shared-slice-read-if1-2 c = search needs
-
-returns : tie.Need-returns Inv-loop μ-loop
-unfolding neverDescends
-returns c =
-    let s = c .before .before .before .before in
-    let ds = s .before .args .depths .now in
-    let i = s .loop .i in
-    let q : suc (i - 1) ≡ i = omega arith in
-    sym (every-false (λ k. leb (getD ds k 0) (getD ds (suc k) 0)) (length ds - 1) (i - 1) (omega arith) (rw q (lt-leb _ _ (c .if1 .taken))))
 
 add-i : tie.Need-add-i Inv-loop μ-loop
 add-i c = search needs
@@ -56,22 +53,21 @@ loop-again : tie.Need-loop-again Inv-loop μ-loop
 loop-again c =
     let s = c .before .before .before .before in
     let ds = s .before .args .depths .now in
-    let i = s .loop .i in (
+    let i = s .loop .i in
+    let test : ℕ → Bool = λ k. leb (getD ds k 0) (getD ds (suc k) 0) in (
       omega arith,
-      λ k l. let y : suc k ≤ i = omega arith in elim (eq-or-lt-of-le y) [
-        | inl q ↦
-            let e : i - 1 ≡ k = omega arith in
-            subst (λ (n : ℕ). getD ds k 0 ≤ getD ds n 0) (sym q) (subst (λ (n : ℕ). getD ds n 0 ≤ getD ds i 0) e (c .if1 .left))
-        | inr m ↦ s .loop .inv .1 k m
+      elim (c .if1 .came) [
+        | inl w ↦ w .1 ∙ flag-cleared test i (rw (← add-one i) (lt-leb _ _ (w .0 .taken)))
+        | inr w ↦ w .1 ∙ flag-kept test i (s .loop .keeps) (s .loop .inv .1) (rw (← add-one i) (le-leb _ _ (w .0 .left)))
       ],
     )
 
-returns-2 : tie.Need-returns-2 Inv-loop μ-loop
+returns : tie.Need-returns Inv-loop μ-loop
 unfolding neverDescends
-returns-2 c =
-    let s = c .before in
-    let ds = s .before .args .depths .now in
-    sym (every-true (λ k. leb (getD ds k 0) (getD ds (suc k) 0)) (length ds - 1) (λ k l. le-leb _ _ (s .loop .inv .1 k (omega arith))))
+returns c =
+    let ds = c .before .before .args .depths .now in
+    let e : c .before .loop .i ≡ length ds - 1 = omega arith in
+    c .before .loop .inv .1 ∙ ap (every (λ k. leb (getD ds k 0) (getD ds (suc k) 0))) e
 
 pub never-descends-spec : {M : Type 1} → statement M
 never-descends-spec =
@@ -80,13 +76,13 @@ never-descends-spec =
     Inv-loop
     μ-loop
     loop-holds
+    add-loop
+    add-if1
     mul-if1
     shared-slice-read-if1
-    sub-if1
     mul-if1-2
     shared-slice-read-if1-2
-    returns
     add-i
     loop-less
     loop-again
-    returns-2)
+    returns)

@@ -1,10 +1,10 @@
--- `fee_est::target::line_over` meets its contract. Assumes nothing.
+-- `fee_est::target::line_wide` meets its contract. Assumes nothing.
 use borrow.Author.Needs.{needs}
 use native.Mathlib.Omega.{arith}
 use mathlib.Core.Path.{_∙_}
 use Rattle.rbitcoin_mempool.proofs.Lerp.{remainder-lt, nearest-up, nearest-down}
-use Rattle.rbitcoin_mempool.proofs.fee_est.target.line_over.Statement.{statement}
-use Rattle.rbitcoin_mempool.proofs.fee_est.target.line_over.Tie as tie
+use Rattle.rbitcoin_mempool.proofs.fee_est.target.line_wide.Statement.{statement}
+use Rattle.rbitcoin_mempool.proofs.fee_est.target.line_wide.Tie as tie
 
 sub-wide-product : tie.Need-sub-wide-product
 sub-wide-product c = search needs
@@ -41,8 +41,8 @@ returns-2 c =
     let d = c .before .before .before in
     nearest-down (s .args .left) (s .args .right) (s .args .dist) (s .args .span) (search needs) (search needs) (s .pre .0) (s .pre .1) (s .pre .2) (d .before .before .before .wide-product .result) (d .before .before .wide-product2 .result) (d .before .wide-sum .result) (d .wide-divide .result) (d .before .before .before .wide-product .ensures) (d .before .before .wide-product2 .ensures) (d .before .wide-sum .ensures) (d .wide-divide .ensures) (c .if1 .left)
 
-pub line-over-spec : {M : Type 1} → statement M
-line-over-spec =
+pub line-wide-spec : {M : Type 1} → statement M
+line-wide-spec =
     tie.close
     (tie.spec
     sub-wide-product
