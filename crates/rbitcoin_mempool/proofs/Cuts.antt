@@ -9,8 +9,8 @@ use lib.Dec.{ltb, leb, eqb}
 use lib.ListN.{length, getD, take, drop, set, length-set, take-append-drop, drop-of-length-le}
 use lib.Seq.{drop-cons, take-suc-set, drop-set-lt, drop-drop, take-all}
 use borrow.Author.Tests.{lt-ltb, le-ltb, leb-true, eq-eqb, ne-eqb}
-use Rattle.slices.specs.Sorted.{Selected, atMost, below, equal, sorted, tally}
-use Rattle.slices.proofs.Sorting.{same-length, kth-at-most, reached, sorted-ascending, sorted-length, sorted-same}
+use Rattle.slices.specs.Sorted.{atMost, below, equal, sorted, tally}
+use Rattle.slices.proofs.Sorting.{kth-at-most, reached, sorted-ascending, sorted-length, sorted-same}
 use Rattle.slices.proofs.Tallies.{at-most-split, below-suc, none-below, take-no, take-yes, tally-mono, tally-take}
 use Rattle.rbitcoin_mempool.specs.Nearest.{Cut, nearer, nearest, nearestFrom}
 
@@ -33,17 +33,6 @@ cut-at m ds cut p l e =
   where
     more : m - 1 < atMost cut (sorted ds)
     more = reached cut (sorted ds) (m - 1) (sorted-ascending ds) (omega (arith, sorted-length ds)) (omega (arith, e))
-
--- where the cut was selected, and the distances changed their order
-module _ (m : ℕ) (ds ys : List ℕ) (cut : ℕ) (s : Selected (m - 1) ds ys cut) where
-  pub cut-selected : 0 < m → m ≤ length ds → Cut m ds cut
-  cut-selected p l = cut-at m ds cut p l (s .found)
-
-  pub selected-length : length ds ≡ length ys
-  selected-length = same-length ds ys (s .same)
-
-  pub below-selected : below cut ys ≡ below cut ds
-  below-selected = sym (s .same (λ x. ltb x cut))
 
 module _ (m : ℕ) (ds : List ℕ) (cut i : ℕ) (k : Cut m ds cut) where
   near : getD ds i 0 < cut → nearer ds i < m

@@ -1,18 +1,16 @@
 -- Laws of the lookback part and the lower median, by the tests that the code makes. Assumes nothing.
-use mathlib.Core.Path.{_≡_, refl, sym, ap, ap₂, _∙_}
+use mathlib.Core.Path.{_≡_, refl, sym, ap, _∙_}
 use mathlib.Core.Bool.{Bool, true, false, cond}
 use mathlib.Core.List.{List, [], _∷_}
 use native.Mathlib.Decide.{decLe}
-use Prim.Native.Nat.{ℕ, zero, suc, _-_, _/_, _≤_, min, max}
+use Prim.Native.Nat.{ℕ, zero, suc, _-_, _≤_, min, max}
 use native.Mathlib.Nat.{sub-zero, not-suc-le-zero}
 use native.Mathlib.Omega.{arith}
 use lib.Dec.{leb}
 use lib.ListN.{length, getD, take, drop, length-take}
 use lib.Seq.{take-nil, take-all}
 use borrow.Author.Tests.{leb-true, leb-false}
-use Rattle.slices.specs.Lists.{copyFront}
-use Rattle.slices.specs.Sorted.{Selected, insert, sorted}
-use Rattle.slices.proofs.Runs.{front-copied}
+use Rattle.slices.specs.Sorted.{insert, sorted}
 use Rattle.rbitcoin_mempool.specs.Answer.{Answer, none, rate, refusal}
 use Rattle.rbitcoin_mempool.specs.Median.{lookbackPart, lowerMedian, medianOf}
 
@@ -72,16 +70,6 @@ median-three (a ∷ []) e = absurd (let f : ⊥ = omega arith in f)
 median-three (a ∷ b ∷ []) e = absurd (let f : ⊥ = omega arith in f)
 median-three (a ∷ b ∷ c ∷ []) e = refl
 median-three (a ∷ b ∷ c ∷ d ∷ xs) e = absurd (let f : ⊥ = omega arith in f)
-
--- the median of what was copied to the front of a list, and selected there
-pub median-selected : (xs own ys zs : List ℕ) (k r : ℕ) → ys ≡ copyFront own xs → length xs ≤ length own → k ≡ (length xs - 1) / 2
-    → Selected k (take (length xs) ys) zs r → r ≡ medianOf xs
-unfolding medianOf
-median-selected xs own ys zs k r e h q s =
-    s .found ∙ ap₂ (λ l i. getD (sorted l) i 0) (ap (take (length xs)) e ∙ front-copied own xs h) q
-
-pub copied-length : (xs own ys : List ℕ) → ys ≡ copyFront own xs → length xs ≤ length own → length xs ≡ length (take (length xs) ys)
-copied-length xs own ys e h = sym (ap length (ap (take (length xs)) e ∙ front-copied own xs h))
 
 pub median-none : (xs : List ℕ) → length xs ≡ 0 → refusal 6 ≡ lowerMedian xs
 unfolding lowerMedian

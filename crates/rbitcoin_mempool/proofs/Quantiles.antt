@@ -1,5 +1,5 @@
 -- The quantile's definitions by the list's length and the confidence, as the code tests them. Assumes nothing.
-use mathlib.Core.Path.{_≡_, refl, sym, ap, _∙_}
+use mathlib.Core.Path.{_≡_, refl}
 use mathlib.Core.Bool.{Bool, true, false, cond}
 use mathlib.Core.List.{List, [], _∷_}
 use Prim.Native.Nat.{ℕ, _≤_, _<_}
@@ -8,8 +8,8 @@ use lib.Dec.{leb}
 use native.Mathlib.Omega.{arith}
 use lib.ListN.{length, getD}
 use lib.Ieee.{Float}
-use Rattle.slices.specs.Sorted.{sorted, atMost, Selected}
-use Rattle.slices.proofs.Sorting.{sorted-unique, sorted-ascending, sorted-same, sorted-length, kth-at-most}
+use Rattle.slices.specs.Sorted.{sorted, atMost}
+use Rattle.slices.proofs.Sorting.{sorted-ascending, sorted-length, kth-at-most}
 use Rattle.slices.proofs.Halves.{tally-le}
 use Rattle.rbitcoin_mempool.specs.Answer.{rate, refusal}
 use Rattle.rbitcoin_mempool.specs.Quantile.{rankOf, lowerPlace, upperPlace, between, atRank, quantileOf, inUnit, logQuantile, logQuantileLeaves}
@@ -53,16 +53,11 @@ module _ (c : Float) where
   unfolding logQuantileLeaves
   leaves-sorted xs h = rw h
 
--- a second selection, of elements that the first has moved
-pub select-again : (k l : ℕ) (xs ys zs : List ℕ) (a b : ℕ) → Selected k xs ys a → Selected l ys zs b → b ≡ getD (sorted xs) l 0
-select-again k l xs ys zs a b s t =
-    t .found ∙ ap (λ m. getD m l 0) (sorted-unique xs (sorted ys) (sorted-ascending ys) (λ p. s .same p ∙ sym (sorted-same ys p)))
-
 -- where more than l elements are at most the element at k, and l is not before k, it stands at l too
-pub repeated : (k l : ℕ) (xs ys : List ℕ) (a n : ℕ) → Selected k xs ys a → n ≡ atMost a ys → k ≤ l → l < n → a ≡ getD (sorted xs) l 0
-repeated k l xs ys a n s e h r =
-    let q : l < atMost a xs = omega (arith, e, s .same (λ x. leb x a)) in
+pub repeated : (k l : ℕ) (xs : List ℕ) (a n : ℕ) → a ≡ getD (sorted xs) k 0 → n ≡ atMost a xs → k ≤ l → l < n → a ≡ getD (sorted xs) l 0
+repeated k l xs a n f e h r =
+    let q : l < atMost a xs = omega (arith, e) in
     let t = tally-le (λ x. leb x a) xs in
     le-antisymm
-    (rw (s .found) (sorted-ascending xs k l h (omega (arith, sorted-length xs))))
+    (rw f (sorted-ascending xs k l h (omega (arith, sorted-length xs))))
     (kth-at-most xs l a q)

@@ -1,16 +1,16 @@
 -- A range of values that has the element at k of the sorted list, as bisection narrows it. Assumes nothing.
-use mathlib.Core.Path.{_≡_, sym, _∙_}
+use mathlib.Core.Path.{_≡_, sym, ap, _∙_}
 use mathlib.Core.List.{List}
 use Prim.Native.Nat.{ℕ, zero, suc, _+_, _-_, _^_, _≤_, _<_, zero-le}
-use native.Mathlib.Nat.{le-antisymm}
 use native.Mathlib.Numerals.{add-one}
 use native.Mathlib.Omega.{arith}
-use lib.Dec.{leb, ltb}
+use lib.Dec.{leb}
 use lib.ListN.{length, getD}
-use borrow.Author.Tests.{lt-ltb, ltb-true, le-leb, leb-true}
-use Rattle.slices.specs.Sorted.{sorted, atMost, below, equal, Least, Most}
+use Rattle.slices.specs.Sorted.{sorted, atMost, below, between, Least, Most}
 use Rattle.slices.proofs.Sorting.{atMost-none, atMost-all, kth-at-most, kth-above, kth-least, kth-most}
-use Rattle.slices.proofs.Tallies.{tally-mono, at-most-split, none-below, below-suc}
+use Rattle.slices.proofs.Tallies.{none-below, below-suc}
+use Rattle.slices.proofs.Between.{between-length, kth-between}
+use Rattle.slices.proofs.Halves.{tally-le}
 
 -- the element lies from lo to hi, `under` elements are below lo, and `upto` are at most hi
 pub record Bracket (xs : List ℕ) (k lo hi under upto : ℕ) : Type 0 where
@@ -64,18 +64,15 @@ module _ (xs : List ℕ) (k lo hi : ℕ) where
           past = b .past;
         }
 
-    -- where one element lies there, it is the element at k
-    pub only : (r : ℕ) → k < length xs → upto - under ≡ 1 → lo ≤ r → r ≤ hi → 0 < equal r xs → r ≡ getD (sorted xs) k 0
-    only r l one p q o = le-antisymm (above r p q o) (kth-at-most xs k r (omega (arith, b .before, b .past, up r p, at-most-split r xs)))
-      where
-        up : (r : ℕ) → lo ≤ r → below lo xs ≤ below r xs
-        up r p = tally-mono (λ x. ltb x lo) (λ x. ltb x r) xs (λ x e. lt-ltb x r (omega (arith, ltb-true x lo e)))
+    -- it is one of those between, counted from the first of them
+    pub chosen : lo ≤ hi → getD (sorted (between lo hi xs)) (k - under) 0 ≡ getD (sorted xs) k 0
+    chosen h =
+        let e : below lo xs + (k - under) ≡ k = omega (arith, b .before, b .from) in
+        kth-between lo hi h xs (k - under) (omega (arith, between-length lo hi h xs, b .before, b .to, b .from, b .past))
+        ∙ ap (λ j. getD (sorted xs) j 0) e
 
-        down : (r : ℕ) → r ≤ hi → atMost r xs ≤ atMost hi xs
-        down r q = tally-mono (λ x. leb x r) (λ x. leb x hi) xs (λ x e. le-leb x hi (omega (arith, leb-true x r e)))
+    pub left : lo ≤ hi → length (between lo hi xs) ≡ upto - under
+    left h = omega (arith, between-length lo hi h xs, b .before, b .to)
 
-        above : (r : ℕ) → lo ≤ r → r ≤ hi → 0 < equal r xs → r ≤ getD (sorted xs) k 0
-        above zero p q o = zero-le
-        above (suc w) p q o =
-            kth-above xs k w l
-            (omega (arith, b .to, b .from, b .past, down (suc w) q, at-most-split (suc w) xs, below-suc w xs))
+    pub upto-fits : upto ≤ length xs
+    upto-fits = omega (arith, b .to, tally-le (λ x. leb x hi) xs)

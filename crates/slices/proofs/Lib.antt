@@ -4,6 +4,7 @@ pub mod Lists
 pub mod Search
 pub mod Sorting
 pub mod Tallies
+pub mod Between
 pub mod Bracket
 pub mod Shares
 pub mod Swaps

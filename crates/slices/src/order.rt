@@ -1,10 +1,13 @@
-// The k-th smallest element of a lent list, found by value: nothing is stored and nothing moved.
+// The least and the k-th smallest element of a lent list, which is left as found.
+ghost use mathlib.Core.Bool.{_&&_};
 ghost use mathlib.Core.Path.{_≡_};
 ghost use Prim.Native.Nat.{_≤_, _<_, min, max};
-ghost use lib.ListN.{length, getD, drop};
-ghost use Rattle.slices.specs.Sorted.{sorted, atMost, below, equal, Most};
+ghost use lib.Dec.{leb};
+ghost use lib.ListN.{length, getD, take, drop};
+ghost use Rattle.slices.specs.Sorted.{sorted, atMost, between, Most};
 ghost use Rattle.slices.specs.Least.{leastOf};
-use super::sort::insertion_sort;
+use super::moves::copy_front;
+use super::sort::select_nth;
 
 // How many elements are at most v.
 pub fn count_at_most(xs: &[u64], v: u64) -> usize
@@ -82,52 +85,56 @@ pub(crate) fn greatest(xs: &[u64]) -> u64
     m
 }
 
-// Some element from lo to hi, where there is one.
-fn find_within(xs: &[u64], lo: u64, hi: u64) -> u64
-    requires { ⌜ below lo (now xs) < atMost hi (now xs) ⌝ }
-    ensures { λ r. ⌜ (lo ≤ r) × (r ≤ hi) × (0 < equal r (now (xs .entry))) ⌝ }
+// Whether x lies from lo to hi, by one comparison: of its distance from lo, modulo 2^64.
+fn is_between(x: u64, lo: u64, hi: u64) -> bool
+    requires { ⌜ lo ≤ hi ⌝ }
+    ensures { λ r. ⌜ r ≡ (leb lo x && leb x hi) ⌝ }
 {
-    let mut i = 0;
-    while i < xs.len() {
-        let x = xs[i];
-        if x <= hi {
-            if lo <= x {
-                return x;
-            }
-        }
-        i += 1;
-    }
-    lo
+    std::num::wrapping_sub_u64(x, lo) <= hi - lo
 }
 
-// A value from lo on and below hi: where the element of rank r of s would lie if they were spread evenly; each third
-// turn the middle, so that the range halves.
-fn middle(lo: u64, hi: u64, r: usize, s: usize, turn: u8) -> u64
-    requires { ⌜ (lo < hi) × (r < s) ⌝ }
-    ensures { λ m. ⌜ (lo ≤ m) × (m < hi) ⌝ }
-{
-    let width = hi - lo;
-    let unit = width / (s as u64);
-    if turn == 2 || unit == 0 {
-        return lo + width / 2;
-    }
-    let step = unit * (r as u64) + unit / 2;
-    if step < width {
-        return lo + step;
-    }
-    hi - 1
-}
-
-// The first 32 elements from lo to hi at every `stride`-th place; says how many there are.
-pub(crate) fn gather(xs: &[u64], lo: u64, hi: u64, stride: usize, out: &mut [u64]) -> usize
-    requires { ⌜ (0 < stride) × (stride ≤ length (now xs)) ⌝ }
-    requires { ⌜ length (now out) ≡ 32 ⌝ }
+// The elements from lo to hi, to the front of `out`; says how many they are. Each element is stored, and the next is
+// stored over one that does not lie there, so that no branch depends on the elements.
+fn collect_between(xs: &[u64], lo: u64, hi: u64, out: &mut [u64]) -> usize
+    requires { ⌜ lo ≤ hi ⌝ }
+    requires { ⌜ length (between lo hi (now xs)) < length (now out) ⌝ }
+    ensures { λ r. ⌜ r ≡ length (between lo hi (now (xs .entry))) ⌝ }
+    ensures { λ r. ⌜ take r (now (out .exit)) ≡ between lo hi (now (xs .entry)) ⌝ }
 {
     let mut n: usize = 0;
     let mut i = 0;
     while i < xs.len() {
         let x = xs[i];
-        if n < 32 {
+        out[n] = x;
+        if is_between(x, lo, hi) {
+            n += 1;
+        }
+        i += 1;
+    }
+    n
+}
+
+// The element at k of the sorted list of the elements from lo to hi, selected in a list of its own.
+fn select_between(xs: &[u64], lo: u64, hi: u64, k: usize) -> u64
+    requires { ⌜ lo ≤ hi ⌝ }
+    requires { ⌜ length (between lo hi (now xs)) ≤ 2048 ⌝ }
+    ensures { λ r. ⌜ r ≡ getD (sorted (between lo hi (now (xs .entry)))) k 0 ⌝ }
+{
+    let mut own = [0u64; 2049];
+    let n = collect_between(xs, lo, hi, &mut own);
+    select_nth(&mut own[..n], k)
+}
+
+// The first elements from lo to hi at every `stride`-th place, as many as `out` has room for; says how many.
+pub(crate) fn gather(xs: &[u64], lo: u64, hi: u64, stride: usize, out: &mut [u64]) -> usize
+    requires { ⌜ (0 < stride) × (stride ≤ length (now xs)) ⌝ }
+    ensures { λ r. ⌜ r ≤ length (now (out .exit)) ⌝ }
+{
+    let mut n: usize = 0;
+    let mut i = 0;
+    while i < xs.len() {
+        let x = xs[i];
+        if n < out.len() {
             out[n] = x;
             if lo <= x {
                 if x <= hi {
@@ -140,22 +147,11 @@ pub(crate) fn gather(xs: &[u64], lo: u64, hi: u64, stride: usize, out: &mut [u64
     n
 }
 
-// A value from lo on and below hi, by 32 elements between them where a sample of the list has so many: the one at the
-// share r of s. No claim is made on how near it is.
-fn pivot(xs: &[u64], lo: u64, hi: u64, r: usize, s: usize, turn: u8) -> u64
-    requires { ⌜ (lo < hi) × (r < s) ⌝ }
+// The value from lo on and below hi that is nearest to p.
+pub(crate) fn nearest_inside(p: u64, lo: u64, hi: u64) -> u64
+    requires { ⌜ lo < hi ⌝ }
     ensures { λ m. ⌜ (lo ≤ m) × (m < hi) ⌝ }
 {
-    if xs.len() < 1024 || turn == 2 {
-        return middle(lo, hi, r, s, turn);
-    }
-    let mut sample = [0u64; 32];
-    let n = gather(xs, lo, hi, xs.len() / 1024, &mut sample);
-    if n < 32 {
-        return middle(lo, hi, r, s, turn);
-    }
-    insertion_sort(&mut sample);
-    let p = sample[r / (s / 32 + 1)];
     if p < lo {
         return lo;
     }
@@ -165,24 +161,59 @@ fn pivot(xs: &[u64], lo: u64, hi: u64, r: usize, s: usize, turn: u8) -> u64
     hi - 1
 }
 
+// A value above or just below the elements around place q of the sorted sample; at an end of the sample it lies on the
+// inner side. No claim is made on how near it is.
+fn beside(sample: &mut [u64], q: usize, above: bool) -> u64 {
+    let n = sample.len();
+    let margin = n / 48 + 3;
+    if q < margin {
+        return select_nth(sample, q + margin);
+    }
+    if above {
+        if q < n {
+            if margin < n - q {
+                return select_nth(sample, q + margin);
+            }
+        }
+    }
+    let p = select_nth(sample, q - margin);
+    if p == 0 { 0 } else { p - 1 }
+}
+
+// A value from lo on and below hi, for the element of rank r of the s between them: by a sample of these, above it in
+// the first turn and below it in the second; in the third the middle, so that the range halves.
+fn pivot(xs: &[u64], lo: u64, hi: u64, r: usize, s: usize, turn: u8) -> u64
+    requires { ⌜ lo < hi ⌝ }
+    requires { ⌜ (2048 < s) × (s ≤ length (now xs)) ⌝ }
+    ensures { λ m. ⌜ (lo ≤ m) × (m < hi) ⌝ }
+{
+    if turn == 2 {
+        return lo + (hi - lo) / 2;
+    }
+    let stride = s / 512 + 1;
+    let mut sample = [0u64; 512];
+    let n = gather(xs, lo, hi, stride, &mut sample);
+    nearest_inside(beside(&mut sample[..n], r / stride, turn == 0), lo, hi)
+}
+
 fn next_turn(turn: u8) -> u8 {
     if turn < 2 { turn + 1 } else { 0 }
 }
 
-// The element at k of the sorted list: bisection on the value, with nothing stored. `under` elements are below lo and
-// `upto` at most hi; where one is left between them, it is looked up.
+// The element at k of the sorted list: bisection on the value. `under` elements are below lo and `upto` at most hi;
+// where few are left between them, it is selected among these.
 fn select(xs: &[u64], k: usize) -> u64
     requires { ⌜ k < length (now xs) ⌝ }
     ensures { λ r. ⌜ r ≡ getD (sorted (now (xs .entry))) k 0 ⌝ }
 {
-    let mut lo = least_of(xs);
-    let mut hi = greatest(xs);
+    let mut lo = 0;
+    let mut hi = u64::MAX;
     let mut under: usize = 0;
     let mut upto = xs.len();
     let mut turn: u8 = 0;
     while lo < hi {
-        if upto - under == 1 {
-            return find_within(xs, lo, hi);
+        if upto - under <= 2048 {
+            return select_between(xs, lo, hi, k - under);
         }
         let mid = pivot(xs, lo, hi, k - under, upto - under, turn);
         turn = next_turn(turn);
@@ -198,12 +229,30 @@ fn select(xs: &[u64], k: usize) -> u64
     lo
 }
 
-// The element at k of the sorted list, and 0 past its end.
+// The element at k of the sorted list, selected in a list that has room for all.
+fn select_copy(xs: &[u64], k: usize, own: &mut [u64]) -> u64
+    requires { ⌜ length (now xs) ≤ length (now own) ⌝ }
+    ensures { λ r. ⌜ r ≡ getD (sorted (now (xs .entry))) k 0 ⌝ }
+{
+    copy_front(own, xs);
+    select_nth(&mut own[..xs.len()], k)
+}
+
+// The element at k of the sorted list, and 0 past its end. Up to 16 and up to 144 elements are copied.
 pub fn nth_smallest(xs: &[u64], k: usize) -> u64
     ensures { λ r. ⌜ r ≡ getD (sorted (now (xs .entry))) k 0 ⌝ }
 {
-    if xs.len() <= k {
+    let n = xs.len();
+    if n <= k {
         return 0;
+    }
+    if n <= 16 {
+        let mut own = [0u64; 16];
+        return select_copy(xs, k, &mut own);
+    }
+    if n <= 144 {
+        let mut own = [0u64; 144];
+        return select_copy(xs, k, &mut own);
     }
     select(xs, k)
 }

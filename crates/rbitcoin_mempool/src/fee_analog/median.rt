@@ -1,8 +1,8 @@
 // The lookback of a target, and the lower median of a lent list.
 ghost use mathlib.Core.Path.{_≡_};
 ghost use mathlib.Core.List.{[], _∷_};
-ghost use Prim.Native.Nat.{_-_, _/_, _≤_, min};
-ghost use lib.ListN.{length, getD};
+ghost use Prim.Native.Nat.{_-_, _/_, min};
+ghost use lib.ListN.{getD};
 ghost use Rattle.slices.specs.Sorted.{sorted};
 ghost use Rattle.rbitcoin_mempool.specs.Answer.{answer};
 ghost use Rattle.rbitcoin_mempool.specs.Median.{analogLookback, lnRate, lookbackPart, medianOf, lowerMedian};
@@ -51,28 +51,6 @@ fn middle_of_three(a: u64, b: u64, c: u64) -> u64
     num::word::greatest(low, num::word::least(high, c))
 }
 
-// The element at (length - 1) / 2 of the sorted list, selected in a list of its own.
-fn median_of_few(values: &[u64]) -> u64
-    requires { ⌜ length (now values) ≤ 16 ⌝ }
-    ensures { λ r. ⌜ r ≡ medianOf (now (values .entry)) ⌝ }
-{
-    let n = values.len();
-    let mut own = [0u64; 16];
-    slices::moves::copy_front(&mut own, values);
-    slices::sort::select_nth(&mut own[..n], half(n))
-}
-
-// The same, of as many as a lookback has.
-fn median_of_lookback(values: &[u64]) -> u64
-    requires { ⌜ length (now values) ≤ 144 ⌝ }
-    ensures { λ r. ⌜ r ≡ medianOf (now (values .entry)) ⌝ }
-{
-    let n = values.len();
-    let mut own = [0u64; 144];
-    slices::moves::copy_front(&mut own, values);
-    slices::sort::select_nth(&mut own[..n], half(n))
-}
-
 // (n - 1) / 2, and 0 for 0.
 fn half(n: usize) -> usize
     ensures { λ r. ⌜ r ≡ (n - 1) / 2 ⌝ }
@@ -90,12 +68,6 @@ fn median_of(values: &[u64]) -> u64
     let n = values.len();
     if n == 3 {
         return middle_of_three(values[0], values[1], values[2]);
-    }
-    if n <= 16 {
-        return median_of_few(values);
-    }
-    if n <= 144 {
-        return median_of_lookback(values);
     }
     slices::order::nth_smallest(values, half(n))
 }

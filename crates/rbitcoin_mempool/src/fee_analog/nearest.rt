@@ -72,26 +72,18 @@ fn count_below(xs: &[u64], v: u64) -> usize
 
 // The outcomes of the m nearest, oldest first, to the front of `out`: all that are nearer than the cut, and of those at
 // the cut the oldest, `wanted` of them. What stood behind them stays.
-fn collect_nearest(
-    logs: &[f64],
-    level: f64,
-    vs: &[u64],
-    cut: u64,
-    wanted: usize,
-    m: usize,
-    out: &mut [u64],
-)
-    requires { ⌜ length (now logs) ≡ length (now vs) ⌝ }
-    requires { ⌜ Cut m (distances level (now logs)) cut ⌝ }
-    requires { ⌜ wanted ≡ m - below cut (distances level (now logs)) ⌝ }
+fn collect_nearest(ds: &[u64], vs: &[u64], cut: u64, wanted: usize, m: usize, out: &mut [u64])
+    requires { ⌜ length (now ds) ≡ length (now vs) ⌝ }
+    requires { ⌜ Cut m (now ds) cut ⌝ }
+    requires { ⌜ wanted ≡ m - below cut (now ds) ⌝ }
     requires { ⌜ m ≤ length (now out) ⌝ }
-    ensures { λ _. ⌜ now (out .exit) ≡ nearest m (distances level (now (logs .entry))) (now (vs .entry)) ++ drop m (now (out .entry)) ⌝ }
+    ensures { λ _. ⌜ now (out .exit) ≡ nearest m (now (ds .entry)) (now (vs .entry)) ++ drop m (now (out .entry)) ⌝ }
 {
     let mut left = wanted;
     let mut n: usize = 0;
     let mut i = 0;
-    while i < logs.len() {
-        let d = num::float::abs_bits(logs[i] - level);
+    while i < ds.len() {
+        let d = ds[i];
         if d < cut {
             out[n] = vs[i];
             n += 1;
@@ -108,8 +100,7 @@ fn collect_nearest(
     }
 }
 
-// The quantile of the 200 outcomes nearest to a level. The cut, the 200th least distance, is selected among the
-// distances, which changes their order: those of the pairs are then worked out once more.
+// The quantile of the 200 outcomes nearest to a level. The cut is the 200th least distance.
 fn nearest_quantile(
     logs: &[f64],
     outcomes: &[u64],
@@ -123,19 +114,18 @@ fn nearest_quantile(
 {
     fill_distances(logs, level, scratch);
     let n = logs.len();
-    let cut = slices::sort::select_nth(&mut scratch[..n], 199);
+    let cut = slices::order::nth_smallest(&scratch[..n], 199);
     let wanted = ANALOG_MIN_NEIGHBORS - count_below(&scratch[..n], cut);
     let mut near = [0u64; 200];
     collect_nearest(
-        logs,
-        level,
+        &scratch[..n],
         outcomes,
         cut,
         wanted,
         ANALOG_MIN_NEIGHBORS,
         &mut near,
     );
-    quantile_of(&mut near, confidence)
+    quantile_of(&near, confidence)
 }
 
 // The quantile of the outcomes in band, or of the 200 nearest where fewer are in band.
@@ -154,5 +144,5 @@ pub(crate) fn neighbors_quantile(
     if n < ANALOG_MIN_NEIGHBORS {
         return nearest_quantile(logs, outcomes, level, confidence, scratch);
     }
-    quantile_of(&mut scratch[..n], confidence)
+    quantile_of(&scratch[..n], confidence)
 }

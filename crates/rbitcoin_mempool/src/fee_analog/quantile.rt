@@ -49,21 +49,21 @@ fn between(a: u64, b: u64, rank: f64) -> u64
     blend(a, b, rank - num::float::floor(rank))
 }
 
-// The quantile of a list whose elements may change their order: its two neighbours are selected. Where enough elements
+// The quantile of a list in any order, which is left as found: its two neighbours are selected. Where enough elements
 // are at most the lower one, it is the upper one too.
-pub(crate) fn quantile_of(xs: &mut [u64], confidence: f64) -> u64
+pub(crate) fn quantile_of(xs: &[u64], confidence: f64) -> u64
     ensures { λ r. ⌜ r ≡ quantileOf (now (xs .entry)) confidence ⌝ }
 {
     let rank = rank_of(confidence, xs.len());
     let lower = lower_place(rank);
     let upper = upper_place(rank);
-    let a = slices::sort::select_nth(xs, lower);
+    let a = slices::order::nth_smallest(xs, lower);
     if lower <= upper {
         if upper < slices::order::count_at_most(xs, a) {
             return between(a, a, rank);
         }
     }
-    let b = slices::sort::select_nth(xs, upper);
+    let b = slices::order::nth_smallest(xs, upper);
     between(a, b, rank)
 }
 

@@ -1,4 +1,4 @@
--- `slices::order::gather` is safe and ends. The loop's invariant: at most 32 are kept. Assumes nothing.
+-- `slices::order::gather` is safe and ends. The loop's invariant: at most as many are kept as there are places. Assumes nothing.
 use borrow.Author.Needs.{needs}
 use native.Mathlib.Omega.{arith}
 use mathlib.Core.Path.{_≡_, _∙_, ap}
@@ -11,7 +11,7 @@ use Rattle.slices.proofs.order.gather.Reads as reads
 use Rattle.slices.proofs.order.gather.Lts as lts
 
 abbrev Inv-loop : tie.InvT-loop
-Inv-loop xs lo hi stride out₀ n₀ i₀ out n i = (n ≤ 32) × (length out ≡ length out₀)
+Inv-loop xs lo hi stride out₀ n₀ i₀ out n i = (n ≤ length out₀) × (length out ≡ length out₀)
 
 abbrev μ-loop : tie.MeasureT-loop
 μ-loop xs lo hi stride out₀ n₀ i₀ out n i = length xs + length xs - i
@@ -56,7 +56,7 @@ same-length : tie.Need-same-length Inv-loop μ-loop
 same-length c = c .before .loop .inv .1
 
 returns : tie.Need-returns Inv-loop μ-loop
-returns c = search needs
+returns c = let inv = c .before .loop .inv in omega (arith, inv .0, inv .1)
 
 pub gather-spec : {M : Type 1} → statement M
 gather-spec =

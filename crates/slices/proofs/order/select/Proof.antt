@@ -1,10 +1,10 @@
 -- `slices::order::select` meets its contract. The loop's invariant is `Bracket` of `proofs/Bracket.antt`, the measure hi - lo. Assumes nothing.
 use borrow.Author.Needs.{needs}
 use native.Mathlib.Omega.{arith}
-use Prim.Native.Nat.{_-_}
+use mathlib.Core.Path.{_∙_}
+use Prim.Native.Nat.{_-_, zero-le}
 use native.Mathlib.Nat.{le-antisymm}
-use Rattle.slices.proofs.Least.{least-bound}
-use Rattle.slices.proofs.Bracket.{Bracket, bracket, lower-half, upper-half, only}
+use Rattle.slices.proofs.Bracket.{Bracket, bracket, lower-half, upper-half, chosen, left, upto-fits}
 use Rattle.slices.proofs.order.select.Statement.{statement}
 use Rattle.slices.proofs.order.select.Tie as tie
 
@@ -14,29 +14,22 @@ Inv-loop xs k lo₀ hi₀ under₀ upto₀ turn₀ lo hi under upto turn = Brack
 abbrev μ-loop : tie.MeasureT-loop
 μ-loop xs k lo₀ hi₀ under₀ upto₀ turn₀ lo hi under upto turn = hi - lo
 
-least-of-requires : tie.Need-least-of-requires Inv-loop μ-loop
-least-of-requires c κs = search needs
-
-greatest-requires : tie.Need-greatest-requires Inv-loop μ-loop
-greatest-requires c κs = search needs
-
 loop-holds : tie.Need-loop-holds Inv-loop μ-loop
 loop-holds c =
-    let s = c .before .before .before in
-    bracket (s .args .xs .now) (s .args .k) _ _ (s .pre) (rw (c .before .least-of .ensures) (least-bound (s .args .xs .now))) (c .greatest .ensures) (search needs)
+    let s = c .before in
+    bracket (s .args .xs .now) (s .args .k) 0 18446744073709551615 (s .pre) (λ j r. zero-le) (λ j r. omega (arith, c .shared-slice-known .given j)) (omega arith)
 
 sub-if1 : tie.Need-sub-if1 Inv-loop μ-loop
 sub-if1 c = search needs
 
-find-within-requires : tie.Need-find-within-requires Inv-loop μ-loop
-find-within-requires c κs = let b = c .before .before .loop .inv in omega (arith, b .before, b .to, b .from, b .past)
+sub-select-between : tie.Need-sub-select-between Inv-loop μ-loop
+sub-select-between c = search needs
+
+select-between-requires : tie.Need-select-between-requires Inv-loop μ-loop
+select-between-requires c κs = let b = c .before in (omega arith, omega (arith, left _ _ _ _ _ _ (b .before .loop .inv) (omega arith)))
 
 returns : tie.Need-returns Inv-loop μ-loop
-returns c =
-    let l = c .before .before .before in
-    let s = l .before .before .before .before in
-    let f = c .find-within .ensures in
-    only (s .args .xs .now) (s .args .k) _ _ _ _ (l .loop .inv) (c .find-within .result) (s .pre) (c .before .if1 .taken) (f .0) (f .1) (f .2)
+returns c = let l = c .before .before .before in c .select-between .ensures ∙ chosen _ _ _ _ _ _ (l .loop .inv) (omega arith)
 
 sub-pivot : tie.Need-sub-pivot Inv-loop μ-loop
 sub-pivot c = search needs
@@ -45,7 +38,7 @@ sub-pivot-2 : tie.Need-sub-pivot-2 Inv-loop μ-loop
 sub-pivot-2 c = search needs
 
 pivot-requires : tie.Need-pivot-requires Inv-loop μ-loop
-pivot-requires c κs = search needs
+pivot-requires c κs = (omega arith, (omega arith, omega (arith, upto-fits _ _ _ _ _ _ (c .before .before .loop .inv))))
 
 next-turn-requires : tie.Need-next-turn-requires Inv-loop μ-loop
 next-turn-requires c κs = search needs
@@ -73,7 +66,7 @@ loop-again-2 c =
     let l = c .before .before .before .before .before .before in
     let m = c .before .before .before .pivot in
     let n = c .before .count-at-most in
-    upper-half _ _ _ _ _ _ (l .loop .inv) (m .result) (n .result) (l .before .before .before .before .pre) (n .ensures) (c .if2 .left)
+    upper-half _ _ _ _ _ _ (l .loop .inv) (m .result) (n .result) (l .before .before .pre) (n .ensures) (c .if2 .left)
 
 returns-2 : tie.Need-returns-2 Inv-loop μ-loop
 returns-2 c = let b = c .before .loop .inv in le-antisymm (b .low) (omega (arith, b .high))
@@ -84,11 +77,10 @@ select-spec =
     (tie.spec
     Inv-loop
     μ-loop
-    least-of-requires
-    greatest-requires
     loop-holds
     sub-if1
-    find-within-requires
+    sub-select-between
+    select-between-requires
     returns
     sub-pivot
     sub-pivot-2

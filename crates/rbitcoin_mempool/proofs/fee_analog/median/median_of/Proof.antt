@@ -23,27 +23,15 @@ middle-of-three-requires c κs = search needs
 returns : tie.Need-returns
 returns c = c .middle-of-three .ensures ∙ median-three (c .before .before .before .before .before .before .args .values .now) (c .before .before .before .before .if1 .taken)
 
-median-of-few-requires : tie.Need-median-of-few-requires
-median-of-few-requires c κs = search needs
-
-returns-2 : tie.Need-returns-2
-returns-2 c = c .median-of-few .ensures
-
-median-of-lookback-requires : tie.Need-median-of-lookback-requires
-median-of-lookback-requires c κs = search needs
-
-returns-3 : tie.Need-returns-3
-returns-3 c = c .median-of-lookback .ensures
-
 half-requires : tie.Need-half-requires
 half-requires c κs = search needs
 
 nth-smallest-requires : tie.Need-nth-smallest-requires
 nth-smallest-requires c κs = search needs
 
-returns-4 : tie.Need-returns-4
+returns-2 : tie.Need-returns-2
 unfolding medianOf
-returns-4 c = c .nth-smallest .ensures ∙ ap (λ k. getD (sorted (c .before .before .before .before .before .before .args .values .now)) k 0) (c .before .half .ensures)
+returns-2 c = c .nth-smallest .ensures ∙ ap (λ k. getD (sorted (c .before .before .before .before .args .values .now)) k 0) (c .before .half .ensures)
 
 pub median-of-spec : {M : Type 1} → statement M
 median-of-spec =
@@ -54,10 +42,6 @@ median-of-spec =
     shared-slice-read-middle-of-three-3
     middle-of-three-requires
     returns
-    median-of-few-requires
-    returns-2
-    median-of-lookback-requires
-    returns-3
     half-requires
     nth-smallest-requires
-    returns-4)
+    returns-2)

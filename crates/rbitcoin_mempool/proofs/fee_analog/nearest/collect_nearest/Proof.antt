@@ -1,33 +1,18 @@
 -- `fee_analog::nearest::collect_nearest` meets its contract. The loop's invariant is `Collecting` of proofs/Cuts.antt. Assumes nothing.
 use borrow.Author.Needs.{needs}
 use native.Mathlib.Omega.{arith}
-use mathlib.Core.Path.{_≡_, sym, _∙_}
 use mathlib.Core.Logic.{⊎-elim}
-use Prim.Native.Nat.{ℕ, _+_, _-_, _*_, _^_, _<_}
-use lib.ListN.{length, getD}
-use lib.Ieee.{Float}
-use mathlib.Core.List.{List}
-use Rattle.rbitcoin_mempool.specs.Nearest.{distances}
-use Rattle.rbitcoin_mempool.proofs.Neighbors.{distances-at, distances-length}
+use Prim.Native.Nat.{_+_, _-_, _*_, _^_, _<_}
+use lib.ListN.{length}
 use Rattle.rbitcoin_mempool.proofs.Cuts.{Collecting, collect-start, collect-below, collect-level, pass-level, pass-far, room-below, room-level, collect-end}
 use Rattle.rbitcoin_mempool.proofs.fee_analog.nearest.collect_nearest.Statement.{statement}
 use Rattle.rbitcoin_mempool.proofs.fee_analog.nearest.collect_nearest.Tie as tie
 
 abbrev Inv-loop : tie.InvT-loop
-Inv-loop logs level vs cut wanted m out₀ left₀ n₀ i₀ out left n i = Collecting m (distances level logs) vs out₀ cut out left n i
+Inv-loop ds vs cut wanted m out₀ left₀ n₀ i₀ out left n i = Collecting m ds vs out₀ cut out left n i
 
 abbrev μ-loop : tie.MeasureT-loop
-μ-loop logs level vs cut wanted m out₀ left₀ n₀ i₀ out left n i = length logs - i
-
-same : (logs : List Float) (vs : List ℕ) (level : Float) → length logs ≡ length vs → length (distances level logs) ≡ length vs
-same logs vs level e = distances-length logs level ∙ e
-
--- the turn's distance is that of its place
-in-range : (b : tie.After-abs-bits Inv-loop μ-loop) → b .before .before .before .loop .i < length (distances (b .before .before .before .before .before .before .before .args .level) (b .before .before .before .before .before .before .before .args .logs .now))
-in-range b = omega (arith, distances-length (b .before .before .before .before .before .before .before .args .logs .now) (b .before .before .before .before .before .before .before .args .level))
-
-distance-here : (b : tie.After-abs-bits Inv-loop μ-loop) → b .abs-bits .result ≡ getD (distances (b .before .before .before .before .before .before .before .args .level) (b .before .before .before .before .before .before .before .args .logs .now)) (b .before .before .before .loop .i) 0
-distance-here b = b .abs-bits .ensures ∙ sym (distances-at (b .before .before .before .before .before .before .before .args .logs .now) (b .before .before .before .before .before .before .before .args .level) (b .before .before .before .loop .i) _ (omega arith))
+μ-loop ds vs cut wanted m out₀ left₀ n₀ i₀ out left n i = length ds - i
 
 -- there is room for one more outcome, and its place fits
 Room : tie.At-loop Inv-loop μ-loop → Type 0
@@ -36,34 +21,30 @@ Room l = (l .loop .n < length (l .loop .out)) × (l .loop .n * 8 < 2 ^ 63) × (l
 sized : (l : tie.At-loop Inv-loop μ-loop) → l .loop .n < length (l .loop .out) → Room l
 unfolding Room
 sized l h =
-    let s = l .before .before .before .before in
-    let g = s .good .1 .1 .1 .1 .1 .1 .0 in
+    let g = l .before .good .1 .1 .1 .1 .1 .0 in
     let e = l .loop .inv .size in
     (h, omega (arith, g .1), omega (arith, g .0))
 
-roomBelow : (t : tie.Then1 Inv-loop μ-loop) → Room (t .before .before .before .before)
+roomBelow : (t : tie.Then1 Inv-loop μ-loop) → Room (t .before .before .before)
 roomBelow t =
-    let l = t .before .before .before .before in
-    let s = l .before .before .before .before in
-    sized l (room-below _ _ (s .args .vs .now) _ _ _ _ _ _ (s .pre .1 .0) (l .loop .inv) (same (s .args .logs .now) (s .args .vs .now) (s .args .level) (s .pre .0)) (s .pre .1 .1 .1) (in-range (t .before)) (omega (arith, distance-here (t .before), t .if1 .taken)))
+    let l = t .before .before .before in
+    let s = l .before in
+    sized l (room-below _ _ (s .args .vs .now) _ _ _ _ _ _ (s .pre .1 .0) (l .loop .inv) (s .pre .0) (s .pre .1 .1 .1) (omega arith) (t .if1 .taken))
 
-roomLevel : (t : tie.Then3 Inv-loop μ-loop) → Room (t .before .before .before .before .before .before)
+roomLevel : (t : tie.Then3 Inv-loop μ-loop) → Room (t .before .before .before .before .before)
 roomLevel t =
-    let l = t .before .before .before .before .before .before in
-    let s = l .before .before .before .before in
-    sized l (room-level _ _ (s .args .vs .now) _ _ _ _ _ _ (s .pre .1 .0) (l .loop .inv) (same (s .args .logs .now) (s .args .vs .now) (s .args .level) (s .pre .0)) (s .pre .1 .1 .1) (in-range (t .before .before .before)) (t .if3 .taken))
+    let l = t .before .before .before .before .before in
+    let s = l .before in
+    sized l (room-level _ _ (s .args .vs .now) _ _ _ _ _ _ (s .pre .1 .0) (l .loop .inv) (s .pre .0) (s .pre .1 .1 .1) (omega arith) (t .if3 .taken))
 
 loop-holds : tie.Need-loop-holds Inv-loop μ-loop
-loop-holds c = let s = c .before .before .before in collect-start (s .args .m) (distances (s .args .level) (s .args .logs .now)) (s .args .vs .now) (s .args .out .now) _ _ (s .pre .1 .1 .0)
+loop-holds c = collect-start _ _ _ _ _ _ (c .pre .1 .1 .0)
 
-mul-abs-bits : tie.Need-mul-abs-bits Inv-loop μ-loop
-mul-abs-bits c = search needs
+mul-d : tie.Need-mul-d Inv-loop μ-loop
+mul-d c = search needs
 
-shared-slice-read-abs-bits : tie.Need-shared-slice-read-abs-bits Inv-loop μ-loop
-shared-slice-read-abs-bits c = search needs
-
-abs-bits-requires : tie.Need-abs-bits-requires Inv-loop μ-loop
-abs-bits-requires c κs = search needs
+shared-slice-read-d : tie.Need-shared-slice-read-d Inv-loop μ-loop
+shared-slice-read-d c = search needs
 
 mul-out : tie.Need-mul-out Inv-loop μ-loop
 mul-out c = search needs
@@ -112,20 +93,18 @@ loop-less c = search needs
 
 loop-again : tie.Need-loop-again Inv-loop μ-loop
 loop-again c =
-    let l = c .before .before .before .before in
-    let s = l .before .before .before .before in
+    let l = c .before .before .before in
+    let s = l .before in
     let k = s .pre .1 .0 in
-    let q = same (s .args .logs .now) (s .args .vs .now) (s .args .level) (s .pre .0) in
+    let q = s .pre .0 in
     let room = s .pre .1 .1 .1 in
-    let e = distance-here (c .before) in
-    let i = in-range (c .before) in
     ⊎-elim
-    (λ w. rw (w .2, w .3, w .4) (collect-below _ _ _ _ _ _ _ _ _ k (l .loop .inv) q room i (omega (arith, e, w .0 .taken))))
+    (λ w. rw (w .2, w .3, w .4) (collect-below _ _ _ _ _ _ _ _ _ k (l .loop .inv) q room (omega arith) (w .0 .taken)))
     (⊎-elim
-    (λ w. rw (w .4, w .5, w .6) (collect-level _ _ _ _ _ _ _ _ _ k (l .loop .inv) q room i (sym e ∙ w .1 .taken) (w .2 .taken)))
+    (λ w. rw (w .4, w .5, w .6) (collect-level _ _ _ _ _ _ _ _ _ k (l .loop .inv) q room (omega arith) (w .1 .taken) (w .2 .taken)))
     (⊎-elim
-    (λ w. rw (w .3, w .4, w .5) (pass-level _ _ _ _ _ _ _ _ _ k (l .loop .inv) q room i (sym e ∙ w .1 .taken) (w .2 .left)))
-    (λ w. rw (w .2, w .3, w .4) (pass-far _ _ _ _ _ _ _ _ _ k (l .loop .inv) q room i (omega (arith, e, w .0 .left, w .1 .left))))))
+    (λ w. rw (w .3, w .4, w .5) (pass-level _ _ _ _ _ _ _ _ _ k (l .loop .inv) q room (omega arith) (w .1 .taken) (w .2 .left)))
+    (λ w. rw (w .2, w .3, w .4) (pass-far _ _ _ _ _ _ _ _ _ k (l .loop .inv) q room (omega arith) (omega (arith, w .0 .left, w .1 .left))))))
     (c .if1 .came)
 
 same-length : tie.Need-same-length Inv-loop μ-loop
@@ -134,8 +113,8 @@ same-length c = c .before .loop .inv .size
 returns : tie.Need-returns Inv-loop μ-loop
 returns c =
     let l = c .before in
-    let s = l .before .before .before .before in
-    collect-end _ _ (s .args .vs .now) _ _ _ _ _ _ (s .pre .1 .0) (l .loop .inv) (same (s .args .logs .now) (s .args .vs .now) (s .args .level) (s .pre .0)) (omega (arith, distances-length (s .args .logs .now) (s .args .level)))
+    let s = l .before in
+    collect-end _ _ (s .args .vs .now) _ _ _ _ _ _ (s .pre .1 .0) (l .loop .inv) (s .pre .0) (omega arith)
 
 pub collect-nearest-spec : {M : Type 1} → statement M
 collect-nearest-spec =
@@ -144,9 +123,8 @@ collect-nearest-spec =
     Inv-loop
     μ-loop
     loop-holds
-    mul-abs-bits
-    shared-slice-read-abs-bits
-    abs-bits-requires
+    mul-d
+    shared-slice-read-d
     mul-out
     shared-slice-read-out
     mul-out-2

@@ -23,8 +23,8 @@ returns c =
     c .before .before .nearest-quantile .ensures
     ∙ ap (λ l. quantileOf l (s .args .confidence)) (few (s .args .level) _ _ (c .before .before .before .before .before .before .before .collect-in-band .ensures .0) (c .before .before .before .before .if1 .taken))
 
-slice-relend-prefix-quantile-of : tie.Need-slice-relend-prefix-quantile-of
-slice-relend-prefix-quantile-of c =
+slice-reshare-prefix-quantile-of : tie.Need-slice-reshare-prefix-quantile-of
+slice-reshare-prefix-quantile-of c =
     let b = c .before .before .before .collect-in-band in
     omega (arith, length-take (b .result) (b .last .1 .1 .1 .0), ap length (b .ensures .1) ∙ sym (b .ensures .0))
 
@@ -41,10 +41,10 @@ same-length-2 c = search needs
 
 returns-2 : tie.Need-returns-2
 returns-2 c =
-    let s = c .before .before .before .before .before .before .before .before .before .before .before .before in
-    let b = c .before .before .before .before .before .before .before .collect-in-band in
-    c .before .before .quantile-of .ensures
-    ∙ ap (λ l. quantileOf l (s .args .confidence)) (b .ensures .1 ∙ enough (s .args .level) _ _ (b .ensures .0) (c .before .before .before .before .if1 .left))
+    let s = c .before .before .before .before .before .before .before .before .before .before in
+    let b = c .before .before .before .before .before .collect-in-band in
+    c .quantile-of .ensures
+    ∙ ap (λ l. quantileOf l (s .args .confidence)) (b .ensures .1 ∙ enough (s .args .level) _ _ (b .ensures .0) (c .before .before .if1 .left))
 
 pub neighbors-quantile-spec : {M : Type 1} → statement M
 neighbors-quantile-spec =
@@ -54,7 +54,7 @@ neighbors-quantile-spec =
     nearest-quantile-requires
     same-length
     returns
-    slice-relend-prefix-quantile-of
+    slice-reshare-prefix-quantile-of
     slice-aggregate-quantile-of
     quantile-of-requires
     same-length-2

@@ -1,6 +1,6 @@
 -- `fee_analog::quantile::quantile_of` meets its contract. Assumes nothing.
 use borrow.Author.Needs.{needs}
-use Rattle.rbitcoin_mempool.proofs.Quantiles.{quantile-by, select-again, repeated}
+use Rattle.rbitcoin_mempool.proofs.Quantiles.{quantile-by, repeated}
 use Rattle.rbitcoin_mempool.proofs.fee_analog.quantile.quantile_of.Statement.{statement}
 use Rattle.rbitcoin_mempool.proofs.fee_analog.quantile.quantile_of.Tie as tie
 
@@ -13,8 +13,8 @@ lower-place-requires c κs = search needs
 upper-place-requires : tie.Need-upper-place-requires
 upper-place-requires c κs = search needs
 
-select-nth-requires : tie.Need-select-nth-requires
-select-nth-requires c κs = search needs
+nth-smallest-requires : tie.Need-nth-smallest-requires
+nth-smallest-requires c κs = search needs
 
 count-at-most-requires : tie.Need-count-at-most-requires
 count-at-most-requires c κs = search needs
@@ -22,40 +22,33 @@ count-at-most-requires c κs = search needs
 between-requires : tie.Need-between-requires
 between-requires c κs = search needs
 
-same-length : tie.Need-same-length
-same-length c = search needs
-
 returns : tie.Need-returns
 returns c =
-    let s = c .before .before .before .before .before .before .before .before .before .before .before .before .before .args in
-    let k = c .before .before .before .before .before .before .before .select-nth .ensures .0 in
-    quantile-by (s .confidence) (s .xs .now) (c .before .before .before .before .before .before .before .before .before .before .before .rank-of .result) _ _ _ _ _
-    (c .before .before .before .before .before .before .before .before .before .before .before .rank-of .ensures)
-    (c .before .before .before .before .before .before .before .before .before .before .lower-place .ensures)
-    (c .before .before .before .before .before .before .before .before .before .upper-place .ensures)
-    (k .found)
-    (repeated _ _ (s .xs .now) _ _ _ k (c .before .before .count-at-most .ensures) (c .before .before .before .before .if1 .taken) (c .before .if2 .taken))
+    let s = c .before .before .before .before .before .before .before .before .before .args in
+    let a = c .before .before .before .before .nth-smallest .ensures in
+    quantile-by (s .confidence) (s .xs .now) (c .before .before .before .before .before .before .before .rank-of .result) _ _ _ _ _
+    (c .before .before .before .before .before .before .before .rank-of .ensures)
+    (c .before .before .before .before .before .before .lower-place .ensures)
+    (c .before .before .before .before .before .upper-place .ensures)
+    a
+    (repeated _ _ (s .xs .now) _ _ a (c .before .before .count-at-most .ensures) (c .before .before .before .if1 .taken) (c .before .if2 .taken))
     (c .between .ensures)
 
-select-nth-requires-2 : tie.Need-select-nth-requires-2
-select-nth-requires-2 c κs = search needs
+nth-smallest-requires-2 : tie.Need-nth-smallest-requires-2
+nth-smallest-requires-2 c κs = search needs
 
 between-requires-2 : tie.Need-between-requires-2
 between-requires-2 c κs = search needs
 
-same-length-2 : tie.Need-same-length-2
-same-length-2 c = search needs
-
 returns-2 : tie.Need-returns-2
 returns-2 c =
-    let s = c .before .before .before .before .before .before .before .before .before .before .before .before .before .before .args in
-    let k = c .before .before .before .before .before .before .before .before .select-nth .ensures .0 in
-    quantile-by (s .confidence) (s .xs .now) (c .before .before .before .before .before .before .before .before .before .before .before .before .rank-of .result) _ _ _ _ _
-    (c .before .before .before .before .before .before .before .before .before .before .before .before .rank-of .ensures)
-    (c .before .before .before .before .before .before .before .before .before .before .before .lower-place .ensures)
-    (c .before .before .before .before .before .before .before .before .before .before .upper-place .ensures)
-    (k .found)
-    (select-again _ _ _ _ _ _ _ k (c .before .before .before .select-nth2 .ensures .0))
+    let s = c .before .before .before .before .before .before .before .before .args in
+    quantile-by (s .confidence) (s .xs .now) (c .before .before .before .before .before .before .rank-of .result) _ _ _ _ _
+    (c .before .before .before .before .before .before .rank-of .ensures)
+    (c .before .before .before .before .before .lower-place .ensures)
+    (c .before .before .before .before .upper-place .ensures)
+    (c .before .before .before .nth-smallest .ensures)
+    (c .before .nth-smallest2 .ensures)
     (c .between2 .ensures)
 
 pub quantile-of-spec : {M : Type 1} → statement M
@@ -65,12 +58,10 @@ quantile-of-spec =
     rank-of-requires
     lower-place-requires
     upper-place-requires
-    select-nth-requires
+    nth-smallest-requires
     count-at-most-requires
     between-requires
-    same-length
     returns
-    select-nth-requires-2
+    nth-smallest-requires-2
     between-requires-2
-    same-length-2
     returns-2)
