@@ -97,6 +97,15 @@ pub fn distance(a: &[Word], b: &[Word]) -> Option<u64> {
         .try_fold(0, |largest, (a, b)| Some(a.distance(*b)?.max(largest)))
 }
 
+/// Two lists that differ in one word have different digests.
+pub fn digest(words: impl Iterator<Item = u64>) -> u64 {
+    let mix = |digest: u64, word: u64| {
+        let mixed = (digest ^ word).wrapping_mul(0x9E37_79B9_7F4A_7C15);
+        mixed.rotate_left(29)
+    };
+    words.fold(0, mix)
+}
+
 /// A shorter list is smaller, then one of smaller words.
 pub fn size(words: &[Word]) -> u128 {
     words.iter().map(|word| (1 << 80) + word.size()).sum()

@@ -748,8 +748,8 @@ impl Part for Capacity {
             jobs.extend(block_jobs(function, plan.scaled(1_000_000)));
         }
         jobs.extend(block_jobs(INCLUSION_CONFIDENCE, plan.scaled(1_000_000)));
-        jobs.extend(search_jobs(plan.scaled(50_000)));
-        jobs.extend(percentile_jobs(plan.scaled(200_000)));
+        jobs.extend(search_jobs(plan.scaled(150_000)));
+        jobs.extend(percentile_jobs(plan.scaled(1_000_000)));
         jobs
     }
 

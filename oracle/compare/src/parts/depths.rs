@@ -386,7 +386,7 @@ mod document {
 }
 
 /// The functions of one depth.
-fn depth_jobs(some: u64) -> Vec<Job> {
+fn depth_jobs(some: u64, more: u64) -> Vec<Job> {
     vec![
         Job::over(BLEND_WEIGHT, 0..100_001_u32),
         Job::over(BLEND_WEIGHT, DEPTHS),
@@ -394,22 +394,22 @@ fn depth_jobs(some: u64) -> Vec<Job> {
         Job::over(FLOW_FOR_DEPTH, boundary::twos()),
         Job::random(FLOW_FOR_DEPTH, some, draw_two),
         Job::over(BLEND_SAT_KVB, boundary::twos()),
-        Job::random(BLEND_SAT_KVB, some, draw_two),
+        Job::random(BLEND_SAT_KVB, more, draw_two),
         Job::over(WARMUP_BLEND, document::blends()),
         Job::over(
             WARMUP_BLEND,
             crate::values::triples(&shares(), &marked_rates(), &marked_rates()),
         ),
-        Job::random(WARMUP_BLEND, some, |rng| {
+        Job::random(WARMUP_BLEND, more, |rng| {
             let (_, cold, warm) = draw_two(rng);
             (draw::draw_share(rng), cold, warm)
         }),
         Job::over(DEPTH_RATE_SAT_KVB, boundary::depth_rates()),
-        Job::random(DEPTH_RATE_SAT_KVB, some, |rng| {
+        Job::random(DEPTH_RATE_SAT_KVB, more, |rng| {
             (draw::draw_depth(rng), rng.below(2) == 0, draw_three(rng))
         }),
         Job::over(PUBLISHED_DEPTH_RATE, boundary::depths()),
-        Job::random(PUBLISHED_DEPTH_RATE, some, draw_published),
+        Job::random(PUBLISHED_DEPTH_RATE, more, draw_published),
     ]
 }
 
@@ -430,7 +430,8 @@ fn draw_published(rng: &mut Rng) -> Depth {
 
 /// The functions of lists.
 fn list_jobs(plan: &Plan) -> Vec<Job> {
-    let some = plan.scaled(300_000);
+    let some = plan.scaled(1_000_000);
+    let lookups = plan.scaled(2_000_000);
     vec![
         Job::random(ENFORCE_MONOTONE_DESC, some, |rng| {
             draw::draw_hold(rng).numbers
@@ -440,14 +441,14 @@ fn list_jobs(plan: &Plan) -> Vec<Job> {
         Job::random(HOLD_DEFINED_THEN_MONOTONE, some, draw::draw_hold),
         Job::random(PUBLISHED_DEPTH_RATES, some, draw::draw_loop),
         Job::random(PUBLISHED_DEPTH_RATES, some, draw::draw_spoiled_loop),
-        Job::random(QUOTES, plan.scaled(200_000), draw::draw_loop),
-        Job::random(EXACT_LINE, plan.scaled(200_000), draw::draw_bounded_loop),
+        Job::random(QUOTES, some, draw::draw_loop),
+        Job::random(EXACT_LINE, plan.scaled(400_000), draw::draw_bounded_loop),
         Job::over(LERP_SAT_KVB, document::LINES),
         Job::over(LERP_SAT_KVB, boundary::ends()),
-        Job::random(LERP_SAT_KVB, plan.scaled(1_000_000), draw::draw_ends),
+        Job::random(LERP_SAT_KVB, plan.scaled(3_000_000), draw::draw_ends),
         Job::over(FEE_AT_TARGET_SAT_KVB, document::lookups()),
-        Job::random(FEE_AT_TARGET_SAT_KVB, some, draw::draw_lookup),
-        Job::random(FEE_AT_TARGET_SAT_KVB, some, draw::draw_spoiled_lookup),
+        Job::random(FEE_AT_TARGET_SAT_KVB, lookups, draw::draw_lookup),
+        Job::random(FEE_AT_TARGET_SAT_KVB, lookups, draw::draw_spoiled_lookup),
     ]
 }
 
@@ -459,7 +460,7 @@ impl Part for Depths {
     }
 
     fn jobs(&self, plan: &Plan) -> Vec<Job> {
-        let mut jobs = depth_jobs(plan.scaled(1_000_000));
+        let mut jobs = depth_jobs(plan.scaled(1_000_000), plan.scaled(3_000_000));
         jobs.extend(list_jobs(plan));
         jobs
     }

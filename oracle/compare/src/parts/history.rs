@@ -4,7 +4,9 @@
 //! The Rust has no capacity and no refusals: where document 01 refuses a call, by the Rust's own held
 //! heights, the Rust is not called.
 
+mod foreign;
 mod inputs;
+mod model;
 mod rattle;
 mod replayed;
 mod sides;
@@ -15,7 +17,7 @@ use crate::bench::Bench;
 use crate::check::{Function, Job, Plan};
 use crate::replay::Replay;
 use crate::rng::Rng;
-use crate::words::{Word, Words};
+use crate::words::{self, Word, Words};
 use inputs::Story;
 use sides::{
     After, Call, Case, LongCase, Opening, Pairs, Patched, Port, Reply, Rust, Side, State, Step,
@@ -32,15 +34,15 @@ const PAIRS: Function<Case, Pairs> =
     Function::new("pairs", last_pairs::<Port>, last_pairs::<Rust<Patched>>)
         .upstream(last_pairs::<Rust<Upstream>>, |_| "up to 79 calls");
 
-/// A digest of the history with its pairs is compared after each call, and the history at the end:
-/// hundreds of calls about the number of kept hashes, and calls on a small history.
+/// A digest of the history with every pair of every target is compared after each call, and the history
+/// at the end: hundreds of calls about the number of kept hashes, and calls on a small history.
 const LONG_CALLS: Function<LongCase, Told> = Function::new(
     "long_calls",
     |case| told::<Port>(&case.0),
     |case| told::<Rust<Patched>>(&case.0),
 );
 
-/// Thousands of calls on a history that has rates.
+/// The same of thousands of calls on a history that has rates, from the first block on.
 const STORY: Function<Story, Told> = Function::new(
     "story",
     |story| told::<Port>(&story.case()),
@@ -62,29 +64,19 @@ impl Words for Told {
     }
 }
 
-/// Two lists that differ in one word have different digests. Of a history, with or without its pairs.
-fn digest(history: &impl Side, with_pairs: bool) -> u64 {
+/// Of a history with every pair of every target.
+fn digest(history: &impl Side) -> u64 {
     let mut words = history.state().words();
-    if with_pairs {
-        history.pairs().write(&mut words);
-    }
-    let mix = |digest: u64, word: &Word| {
-        let mixed = (digest ^ word.bits()).wrapping_mul(0x9E37_79B9_7F4A_7C15);
-        mixed.rotate_left(29)
-    };
-    words.iter().fold(0, mix)
+    history.pairs().write(&mut words);
+    words::digest(words.into_iter().map(Word::bits))
 }
 
 fn told<S: Side>((opening, steps): &Case) -> Told {
     let (mut history, reply) = S::open(opening);
-    let mut after = vec![(reply, digest(&history, true))];
-    // While the thousands of blocks come that a story begins with, the pairs are read now and then.
-    let few = steps.len() < 1_000;
-    let filled = steps.len() - steps.len().min(400);
-    for (place, step) in steps.iter().enumerate() {
+    let mut after = vec![(reply, digest(&history))];
+    for step in steps {
         let reply = history.step(step);
-        let is_watched = few || place >= filled || place % 64 == 0;
-        after.push((reply, digest(&history, is_watched)));
+        after.push((reply, digest(&history)));
     }
     Told {
         after,
@@ -304,18 +296,28 @@ impl Part for HeldBlocks {
     fn jobs(&self, plan: &Plan) -> Vec<Job> {
         vec![
             Job::over(CALLS, opening_cases()),
-            Job::random(CALLS, plan.scaled(40_000), inputs::draw_calls),
-            Job::random(PAIRS, plan.scaled(10_000), inputs::draw_calls),
-            Job::random(LONG_CALLS, plan.scaled(400), |rng| {
+            Job::random(CALLS, plan.scaled(100_000), inputs::draw_calls),
+            Job::random(PAIRS, plan.scaled(30_000), inputs::draw_calls),
+            Job::random(LONG_CALLS, plan.scaled(1_000), |rng| {
                 LongCase(inputs::draw_long_calls(rng))
             }),
-            Job::random(LONG_CALLS, plan.scaled(10_000), |rng| {
+            Job::random(LONG_CALLS, plan.scaled(30_000), |rng| {
                 LongCase(inputs::draw_calls(rng))
             }),
-            Job::random(FOREIGN_STATE, plan.scaled(100_000), draw_foreign),
-            Job::random(FOREIGN_MARKS, plan.scaled(20_000), draw_marked),
-            Job::random(STORY, plan.scaled(40), inputs::draw_story),
-            Job::random(RATES, plan.scaled(100), inputs::draw_story),
+            Job::random(FOREIGN_STATE, plan.scaled(500_000), draw_foreign),
+            Job::random(FOREIGN_MARKS, plan.scaled(200_000), draw_marked),
+            Job::random(STORY, plan.scaled(80), inputs::draw_story),
+            Job::random(RATES, plan.scaled(200), inputs::draw_story),
+            Job::random(
+                foreign::FOREIGN_CALLS,
+                plan.scaled(200_000),
+                foreign::draw_used,
+            ),
+            Job::random(
+                foreign::FOREIGN_RATES,
+                plan.scaled(5_000),
+                foreign::draw_rated,
+            ),
         ]
     }
 

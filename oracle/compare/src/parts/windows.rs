@@ -3,7 +3,9 @@
 //! reads, left every element of the lent lists. Where the Rust would panic or has no such case, the
 //! expected answer is document 01's refusal.
 
+pub(super) mod foreign;
 pub(super) mod inputs;
+pub(super) mod model;
 pub(super) mod rattle;
 mod replayed;
 mod sides;
@@ -397,16 +399,26 @@ impl Part for PairWindows {
 
     fn jobs(&self, plan: &Plan) -> Vec<Job> {
         let mut jobs = number_jobs(plan.scaled(1_000_000));
-        jobs.extend(list_jobs(plan.scaled(100_000)));
+        jobs.extend(list_jobs(plan.scaled(1_000_000)));
         jobs.extend([
             Job::over(CALLS, opening_cases()),
-            Job::random(CALLS, plan.scaled(20_000), inputs::draw_calls),
-            Job::random(FOREIGN_STATE, plan.scaled(100_000), draw_foreign),
-            Job::random(STORY, plan.scaled(200), inputs::draw_story),
+            Job::random(CALLS, plan.scaled(40_000), inputs::draw_calls),
+            Job::random(FOREIGN_STATE, plan.scaled(1_000_000), draw_foreign),
+            Job::random(STORY, plan.scaled(400), inputs::draw_story),
             Job::over(STORY, inputs::box_stories()),
             Job::over(RATE, inputs::fixed_quotes()),
-            Job::random(RATE, plan.scaled(5_000), inputs::draw_quote),
-            Job::random(SCAN, plan.scaled(5_000), inputs::draw_scan),
+            Job::random(RATE, plan.scaled(10_000), inputs::draw_quote),
+            Job::random(SCAN, plan.scaled(10_000), inputs::draw_scan),
+            Job::random(
+                foreign::FOREIGN_CALLS,
+                plan.scaled(500_000),
+                foreign::draw_used,
+            ),
+            Job::random(
+                foreign::FOREIGN_RATES,
+                plan.scaled(10_000),
+                foreign::draw_rated,
+            ),
         ]);
         jobs
     }

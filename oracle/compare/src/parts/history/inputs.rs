@@ -264,7 +264,7 @@ impl Story {
             let place = match order {
                 0 => place,
                 1 => count - 1 - place,
-                _ if place % 2 == 0 => (count - 1) / 2 - place / 2,
+                _ if place.is_multiple_of(2) => (count - 1) / 2 - place / 2,
                 _ => (count - 1) / 2 + 1 + place / 2,
             };
             let height = 1_000 + 2 * place as u32;

@@ -126,7 +126,7 @@ pub struct Asked {
 }
 
 /// A list's front, as long as it is lent.
-fn front<'a, T>(list: &'a mut [T], asked: usize, is_short: bool, short: u8) -> &'a mut [T] {
+fn front<T>(list: &mut [T], asked: usize, is_short: bool, short: u8) -> &mut [T] {
     let length = if is_short {
         list.len().min(asked.saturating_sub(1))
     } else if short == EXACT {

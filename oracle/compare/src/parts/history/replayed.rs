@@ -122,7 +122,7 @@ impl Words for Listed {
 
 /// The rate of the block at a place with so many after it and itself.
 fn rate_at(((_, level, mask), (last, step, _), _): &Rated, place: u64, left: u64, x: u64) -> u64 {
-    let spread = if place % 3 == 0 { x & mask } else { 0 };
+    let spread = if place.is_multiple_of(3) { x & mask } else { 0 };
     let higher = if left <= *last { *step } else { 0 };
     level.wrapping_add(spread).wrapping_add(higher)
 }

@@ -273,7 +273,7 @@ pub struct State {
 /// For each target the pairs, oldest first.
 pub type Pairs = Vec<Vec<(f64, u64)>>;
 
-fn hash_words(bytes: &[u8; 32]) -> [u64; 4] {
+pub fn hash_words(bytes: &[u8; 32]) -> [u64; 4] {
     let word = |place: usize| bytes[8 * place..8 * place + 8].try_into().expect("8 bytes");
     std::array::from_fn(|place| u64::from_le_bytes(word(place)))
 }
@@ -367,24 +367,24 @@ pub fn block_hash(hash: Hash) -> BlockHash {
     }
 }
 
-impl Port {
-    /// How long the lists of a call must be.
-    fn asked(&self, call: &Call) -> Asked {
-        let answer = match call {
-            Call::Entries => self.state.count,
-            Call::RecentHashes => self.state.hashes,
-            Call::Rates => self.state.analog.tracked,
-            _ => 0,
-        };
-        Asked {
-            capacity: self.state.analog.capacity,
-            tracked: self.state.analog.tracked,
-            answer,
-        }
+/// How long the lists of a call must be.
+pub fn asked(state: &rattle::State, call: &Call) -> Asked {
+    let answer = match call {
+        Call::Entries => state.count,
+        Call::RecentHashes => state.hashes,
+        Call::Rates => state.analog.tracked,
+        _ => 0,
+    };
+    Asked {
+        capacity: state.analog.capacity,
+        tracked: state.analog.tracked,
+        answer,
     }
+}
 
+impl Port {
     pub fn called(&mut self, Step { call, short }: &Step) -> Reply {
-        let (state, asked) = (self.state, self.asked(call));
+        let (state, asked) = (self.state, asked(&self.state, call));
         let lent = &mut self.memory.lend(*short, asked);
         let update = match *call {
             Call::Insert(height, block, hash) => {
@@ -415,7 +415,7 @@ impl Port {
         if reply.refusal != 0 {
             return Changes::default();
         }
-        let answer = self.asked(call).answer;
+        let answer = asked(&self.state, call).answer;
         let mut changes = Changes::default();
         match call {
             Call::Get(_) => {}

@@ -237,7 +237,7 @@ pub fn draw_hurdle(rng: &mut Rng) -> u64 {
 }
 
 /// One call in eight is lent a list that is too short, and four of the others exact lists.
-fn draw_short(rng: &mut Rng) -> u8 {
+pub fn draw_short(rng: &mut Rng) -> u8 {
     match rng.below(8) {
         0 => rng.pick(&[
             rattle::HURDLES,
@@ -252,7 +252,7 @@ fn draw_short(rng: &mut Rng) -> u8 {
 
 /// More pushes than pops at the end that `back` names, now and then a rebuild about as long as the
 /// capacity.
-fn draw_call(rng: &mut Rng, opening: &Opening, back: u64) -> Call {
+pub fn draw_call(rng: &mut Rng, opening: &Opening, back: u64) -> Call {
     let capacity = opening.capacity.min(70_000);
     let target = |rng: &mut Rng| match opening.targets.len() as u64 {
         0 => draw_target(rng),
@@ -483,7 +483,7 @@ impl Scan {
 }
 
 /// Of NaNs those of one pattern, of either sign: of several the Rust tells one from another.
-fn any_float(rng: &mut Rng) -> f64 {
+pub fn any_float(rng: &mut Rng) -> f64 {
     let x = match rng.below(4) {
         0 => rng.pick(&crate::values::special_floats()),
         1 => rng.pick(&[f64::NAN, -f64::NAN]),

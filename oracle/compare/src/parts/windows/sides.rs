@@ -190,7 +190,7 @@ pub struct Port {
 
 impl Port {
     /// Whether a list that a rebuild reads is kept is told with the answer.
-    fn called(&mut self, step: &Step) -> Reply {
+    pub fn called(&mut self, step: &Step) -> Reply {
         let state = self.state;
         let lent = &mut self.memory.lend(step.short, state.tracked, state.capacity);
         let mut kept = true;
