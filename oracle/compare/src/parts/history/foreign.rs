@@ -23,7 +23,7 @@ pub type Used = ((u64, u64, u64), (u64, u64, u64), (u64, u64, Vec<Step>));
 pub const FOREIGN_CALLS: Function<Used, Vec<Seen>> =
     Function::new("foreign_calls", seen::<Port>, seen::<Model>);
 
-/// Rates of some 2,000 pairs, between other calls.
+/// Three times the rates of some 2,000 pairs, and three other calls between.
 pub const FOREIGN_RATES: Function<Used, Vec<Seen>> =
     Function::new("foreign_rates", seen::<Port>, seen::<Model>);
 
@@ -176,18 +176,29 @@ fn fill_heights(rng: &mut Rng, heights: &mut [u32], wide: bool) {
 /// The state and the memory of an input.
 fn foreign(used: &Used) -> (State, Memory) {
     const MOST: usize = 4_096;
-    let ((tracked, capacity, first), (hurdles, start, count), (hashes, seed, _)) = used;
+    let (.., (_, seed, _)) = used;
     let mut rng = Rng::new(*seed, "foreign history");
-    let analog = Analog {
-        targets: targets(*seed),
-        tracked: *tracked as usize,
-        capacity: *capacity as usize,
-        start: *first as usize,
-        count: *hurdles as usize,
-    };
+    let state = draw_state(&mut rng, used);
+    let Analog {
+        tracked, capacity, ..
+    } = state.analog;
+    let mut memory = Memory::new(tracked.min(16), capacity.min(MOST));
+    fill_rows(&mut rng, &mut memory);
+    fill_windows(&mut rng, &mut memory, *seed);
+    (state, memory)
+}
+
+fn draw_state(rng: &mut Rng, used: &Used) -> State {
+    let ((tracked, capacity, first), (hurdles, start, count), (hashes, seed, _)) = used;
     let sums = [0, 3, 100, 1 << 40, u64::MAX - 2, u64::MAX];
-    let mut state = State {
-        analog,
+    State {
+        analog: Analog {
+            targets: targets(*seed),
+            tracked: *tracked as usize,
+            capacity: *capacity as usize,
+            start: *first as usize,
+            count: *hurdles as usize,
+        },
         analog_stale: rng.below(4) == 0,
         start: *start as usize,
         count: *count as usize,
@@ -195,15 +206,15 @@ fn foreign(used: &Used) -> (State, Memory) {
         budget: rng.pick(&sums),
         hashes: *hashes as usize,
         kept: rng.below(4) == 0,
-        kept_numbers: [0; 16],
-        kept_marks: [0; 16],
-    };
-    state.kept_numbers = state.kept_numbers.map(|_| rng.word());
-    state.kept_marks = state.kept_marks.map(|_| rng.pick(&[0, 1, 1, 2, 255]));
-    let mut memory = Memory::new(analog.tracked.min(16), analog.capacity.min(MOST));
-    fill_heights(&mut rng, &mut memory.heights, false);
+        kept_numbers: std::array::from_fn(|_| rng.word()),
+        kept_marks: std::array::from_fn(|_| rng.pick(&[0, 1, 1, 2, 255])),
+    }
+}
+
+fn fill_rows(rng: &mut Rng, memory: &mut Memory) {
+    fill_heights(rng, &mut memory.heights, false);
     let wide = rng.below(2) == 0;
-    fill_heights(&mut rng, &mut memory.hash_heights, wide);
+    fill_heights(rng, &mut memory.hash_heights, wide);
     let large = rng.below(3) == 0;
     for (mark, size) in memory.marks.iter_mut().zip(&mut memory.sizes) {
         *mark = rng.pick(&[0, 1, 1, 1, 1, 2, 129, 255]);
@@ -212,20 +223,23 @@ fn foreign(used: &Used) -> (State, Memory) {
             false => rng.below(20),
         };
     }
+}
+
+/// Rates and hurdles about one level or any; most logarithms of foreign pairs are those of rates.
+fn fill_windows(rng: &mut Rng, memory: &mut Memory, seed: u64) {
     let level = 1 + rng.below(50_000);
     for number in memory.rates.iter_mut().chain(&mut memory.hurdles) {
         *number = match seed % 2 {
             0 => level + rng.below(level),
-            _ => draw_hurdle(&mut rng),
+            _ => draw_hurdle(rng),
         };
     }
     for before in &mut memory.befores {
         *before = match rng.below(4) {
-            0 if seed % 3 == 0 => any_float(&mut rng),
+            0 if seed.is_multiple_of(3) => any_float(rng),
             _ => ln_rate(1 + rng.below(4 * level)),
         };
     }
-    (state, memory)
 }
 
 fn targets(seed: u64) -> [u32; 16] {

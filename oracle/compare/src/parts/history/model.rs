@@ -1,7 +1,7 @@
 //! What the definitions of crates/rbitcoin_net/specs say of a history in memory of any contents, for
 //! states that no call made. Each function is named by the definition that it follows.
 
-use super::rattle::{Memory, RECENT_HASHES, State};
+use super::rattle::{Lists, Memory, RECENT_HASHES, State};
 use super::sides::{Block, Call, Reply, Step, asked, hash_bytes, hash_words};
 use crate::parts::windows::model::{self, Windows};
 use crate::parts::windows::rattle::State as Analog;
@@ -51,6 +51,38 @@ fn state_refusal(state: &State) -> u8 {
     }
 }
 
+/// Whether a list that the call is lent is too short.
+fn lacks(state: &State, call: &Call, lent: &Lists) -> bool {
+    let Analog {
+        tracked, capacity, ..
+    } = state.analog;
+    let short = |lengths: &[usize], asked: usize| lengths.iter().any(|length| *length < asked);
+    let of_rows = [lent.heights.len(), lent.marks.len(), lent.rates.len()];
+    let rows = short(&of_rows, capacity) || lent.sizes.len() < capacity;
+    let hashes =
+        lent.hash_heights.len() < RECENT_HASHES || lent.hash_bytes.len() < 32 * RECENT_HASHES;
+    let of_pairs = [lent.befores.len(), lent.aheads.len()];
+    let windows = lent.hurdles.len() < capacity || short(&of_pairs, tracked * capacity);
+    let of_rates = [lent.out_numbers.len(), lent.out_marks.len()];
+    match call {
+        Call::Insert(..) | Call::InsertIfAbsent(..) => rows || hashes || windows,
+        Call::TruncateAbove(_) => rows || hashes,
+        Call::Get(_) => rows,
+        Call::Entries => {
+            let out = [lent.out_heights.len(), lent.out_sizes.len()];
+            rows || short(&of_rates, state.count) || short(&out, state.count)
+        }
+        Call::RecentHashes => {
+            let heights = lent.out_heights.len() < state.hashes;
+            hashes || heights || lent.out_bytes.len() < 32 * state.hashes
+        }
+        Call::Rates => {
+            let scratch = lent.scratch.len() < capacity;
+            rows || windows || scratch || short(&of_rates, tracked)
+        }
+    }
+}
+
 /// Readers.antt, `wrote`.
 fn wrote<T: Copy>(list: &mut [T], front: &[T]) {
     list[..front.len()].copy_from_slice(front);
@@ -79,56 +111,27 @@ impl Model {
     }
 
     /// 1, then the state's, then 5 for a list that is too short, then 4.
-    fn refusal(&mut self, Step { call, short }: &Step) -> u8 {
+    fn refusal(&mut self, step: &Step) -> u8 {
         let state = self.state;
-        let State { count, analog, .. } = state;
-        let lent = self.memory.lend(*short, asked(&state, call));
+        let lent = self.memory.lend(step.short, asked(&state, &step.call));
         let unequal = lent.out_numbers.len() != lent.out_marks.len();
-        if unequal && matches!(call, Call::Entries | Call::Rates) {
+        if unequal && matches!(step.call, Call::Entries | Call::Rates) {
             return 1;
         }
-        let refusal = state_refusal(&state);
-        if refusal != 0 {
-            return refusal;
+        match state_refusal(&state) {
+            0 if lacks(&state, &step.call, &lent) => 5,
+            0 if self.is_full(&step.call) => 4,
+            refusal => refusal,
         }
-        let short = |lengths: &[usize], asked: usize| lengths.iter().any(|length| *length < asked);
-        let of_rows = [lent.heights.len(), lent.marks.len(), lent.rates.len()];
-        let rows = short(&of_rows, analog.capacity) || lent.sizes.len() < analog.capacity;
-        let hashes =
-            lent.hash_heights.len() < RECENT_HASHES || lent.hash_bytes.len() < 32 * RECENT_HASHES;
-        let pairs = [lent.befores.len(), lent.aheads.len()];
-        let windows =
-            lent.hurdles.len() < analog.capacity || short(&pairs, analog.tracked * analog.capacity);
-        let of_rates = [lent.out_numbers.len(), lent.out_marks.len()];
-        let lacks = match call {
-            Call::Insert(..) | Call::InsertIfAbsent(..) => rows || hashes || windows,
-            Call::TruncateAbove(_) => rows || hashes,
-            Call::Get(_) => rows,
-            Call::Entries => {
-                let out = [lent.out_heights.len(), lent.out_sizes.len()];
-                rows || short(&of_rates, count) || short(&out, count)
-            }
-            Call::RecentHashes => {
-                hashes
-                    || lent.out_heights.len() < state.hashes
-                    || lent.out_bytes.len() < 32 * state.hashes
-            }
-            Call::Rates => {
-                let scratch = lent.scratch.len() < analog.capacity;
-                rows || windows || scratch || short(&of_rates, analog.tracked)
-            }
-        };
-        let is_full = || match *call {
-            Call::Insert(height, ..) => self.place_of(height) - state.start == analog.capacity,
-            Call::InsertIfAbsent(height, ..) => !self.is_held(height) && count == analog.capacity,
+    }
+
+    fn is_full(&self, call: &Call) -> bool {
+        let State { start, count, .. } = self.state;
+        let capacity = self.state.analog.capacity;
+        match *call {
+            Call::Insert(height, ..) => self.place_of(height) - start == capacity,
+            Call::InsertIfAbsent(height, ..) => !self.is_held(height) && count == capacity,
             _ => false,
-        };
-        if lacks {
-            5
-        } else if is_full() {
-            4
-        } else {
-            0
         }
     }
 

@@ -18,11 +18,11 @@ pub type Used = ((u64, u64, u64), (u64, u64, Vec<Step>));
 /// The answer; start and count; a digest of state and memory.
 type Seen = (RateFields, (usize, usize), u64);
 
-/// Up to 12 calls on few places.
+/// Twelve calls on few places.
 pub const FOREIGN_CALLS: Function<Used, Vec<Seen>> =
     Function::new("foreign_calls", seen::<Port>, seen::<Model>);
 
-/// Pushes, pops and rates of some 2,000 pairs.
+/// Eight pushes, pops and rates, of some 2,000 pairs.
 pub const FOREIGN_RATES: Function<Used, Vec<Seen>> =
     Function::new("foreign_rates", seen::<Port>, seen::<Model>);
 
