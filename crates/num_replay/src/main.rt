@@ -1,47 +1,22 @@
 // Replays the oracle's questions about the crate `num`. A line of standard input is a function's name
 // and its arguments, and a line of standard output its results, a NaN as `nan`.
 use libc::STDIN_FILENO;
-use libc::STDOUT_FILENO;
 use num::wide::Wide;
 use num::wide::WideDivision;
-
-fn put(n: u64) {
-    io::print_hex(STDOUT_FILENO, n, 16);
-}
-
-fn put_space() {
-    io::write_all(STDOUT_FILENO, b" ");
-}
-
-fn put_newline() {
-    io::write_all(STDOUT_FILENO, b"\n");
-}
-
-fn put_word(n: u64) {
-    put(n);
-    put_newline();
-}
-
-fn put_float(x: f64) {
-    if x != x {
-        io::write_all(STDOUT_FILENO, b"nan\n");
-        return;
-    }
-    put_word(f64::to_bits(x));
-}
+use replay_lines::float_of;
+use replay_lines::put;
 
 fn put_wide(n: Wide) {
-    put(n.hi);
-    put_space();
-    put_word(n.lo);
+    put::word(n.hi);
+    put::next(n.lo);
+    put::newline();
 }
 
 fn put_division(d: WideDivision) {
-    put(d.quotient.hi);
-    put_space();
-    put(d.quotient.lo);
-    put_space();
-    put_word(d.remainder);
+    put::word(d.quotient.hi);
+    put::next(d.quotient.lo);
+    put::next(d.remainder);
+    put::newline();
 }
 
 // Each of the following answers the functions of one group of arguments, and says whether the name
@@ -49,15 +24,15 @@ fn put_division(d: WideDivision) {
 
 fn of_two_words(name: &[u8], a: u64, b: u64) -> bool {
     if check::same(name, b"saturating_add") {
-        put_word(num::word::saturating_add(a, b));
+        put::only(num::word::saturating_add(a, b));
     } else if check::same(name, b"saturating_sub") {
-        put_word(num::word::saturating_sub(a, b));
+        put::only(num::word::saturating_sub(a, b));
     } else if check::same(name, b"saturating_mul") {
-        put_word(num::word::saturating_mul(a, b));
+        put::only(num::word::saturating_mul(a, b));
     } else if check::same(name, b"least") {
-        put_word(num::word::least(a, b));
+        put::only(num::word::least(a, b));
     } else if check::same(name, b"greatest") {
-        put_word(num::word::greatest(a, b));
+        put::only(num::word::greatest(a, b));
     } else if check::same(name, b"wide_product") {
         put_wide(num::wide::wide_product(a, b));
     } else {
@@ -79,11 +54,11 @@ fn of_wide(name: &[u8], n: Wide, c: u64, d: u64) -> bool {
 
 fn of_word(name: &[u8], n: u64) -> bool {
     if check::same(name, b"f64_from_u64") {
-        put_float(num::float::from_u64(n));
+        put::float(num::float::from_u64(n));
     } else if check::same(name, b"ln") {
-        put_float(num::ln::ln(n));
+        put::float(num::ln::ln(n));
     } else if check::same(name, b"ln_1_25") {
-        put_float(num::ln::ln_1_25());
+        put::float(num::ln::ln_1_25());
     } else {
         return false;
     }
@@ -92,17 +67,17 @@ fn of_word(name: &[u8], n: u64) -> bool {
 
 fn of_float(name: &[u8], x: f64) -> bool {
     if check::same(name, b"f64_to_u64") {
-        put_word(num::float::to_u64(x));
+        put::only(num::float::to_u64(x));
     } else if check::same(name, b"round_to_u64") {
-        put_word(num::float::round_to_u64(x));
+        put::only(num::float::round_to_u64(x));
     } else if check::same(name, b"is_finite") {
-        put_word(num::float::is_finite(x) as u64);
+        put::only(num::float::is_finite(x) as u64);
     } else if check::same(name, b"floor") {
-        put_float(num::float::floor(x));
+        put::float(num::float::floor(x));
     } else if check::same(name, b"ceil") {
-        put_float(num::float::ceil(x));
+        put::float(num::float::ceil(x));
     } else if check::same(name, b"exp") {
-        put_float(num::exp::exp(x));
+        put::float(num::exp::exp(x));
     } else {
         return false;
     }
@@ -111,23 +86,24 @@ fn of_float(name: &[u8], x: f64) -> bool {
 
 fn of_floats(name: &[u8], x: f64, y: f64, z: f64) -> bool {
     if check::same(name, b"max") {
-        put_float(num::float::max(x, y));
+        put::float(num::float::max(x, y));
     } else if check::same(name, b"clamp") {
-        put_float(num::float::clamp(x, y, z));
+        put::float(num::float::clamp(x, y, z));
     } else {
         return false;
     }
     true
 }
 
-// Answers one question: the arguments stand 17 bytes apart, and those that are not there are 0.
+// Answers one question: the arguments that are not there are 0.
 fn answer(line: &[u8]) {
-    let stop = replay_lines::find(line, b' ', 0);
-    let a = replay_lines::word(line, stop + 1);
-    let b = replay_lines::word(line, stop + 18);
-    let c = replay_lines::word(line, stop + 35);
-    let d = replay_lines::word(line, stop + 52);
-    let name = &line[0..stop];
+    let name = replay_lines::name(line);
+    let mut words = [0u64; 4];
+    replay_lines::words(line, &mut words);
+    let a = words[0];
+    let b = words[1];
+    let c = words[2];
+    let d = words[3];
     if of_two_words(name, a, b) {
         return;
     }
@@ -137,26 +113,20 @@ fn answer(line: &[u8]) {
     if of_word(name, a) {
         return;
     }
-    if of_float(name, replay_lines::float_of(a)) {
+    if of_float(name, float_of(a)) {
         return;
     }
-    if of_floats(
-        name,
-        replay_lines::float_of(a),
-        replay_lines::float_of(b),
-        replay_lines::float_of(c),
-    ) {
+    if of_floats(name, float_of(a), float_of(b), float_of(c)) {
         return;
     }
-    io::write_all(STDOUT_FILENO, b"unknown\n");
+    put::unknown();
 }
 
 fn answer_all(lines: &[u8]) {
     let mut at: usize = 0;
     while at < lines.len() {
-        let stop = replay_lines::find(lines, b'\n', at);
-        answer(&lines[at..stop]);
-        at = stop + 1;
+        answer(replay_lines::line(lines, at));
+        at = replay_lines::next_line(lines, at);
     }
 }
 

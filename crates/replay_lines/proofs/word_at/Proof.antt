@@ -1,0 +1,12 @@
+-- `replay_lines::word_at` meets its contract. Assumes nothing.
+use mathlib.Core.Path.{sym}
+use borrow.Author.Needs.{needs}
+use lib.ListN.{List·getD-eq-default}
+use Rattle.replay_lines.proofs.word_at.Statement.{statement}
+use Rattle.replay_lines.proofs.word_at.Tie as tie
+
+returns-2 : tie.Need-returns-2
+returns-2 c = sym (List·getD-eq-default (c .before .args .words .now) 0 (c .if1 .left))
+
+pub word-at-spec : {M : Type 1} → statement M
+word-at-spec = tie.close (tie.spec (λ c. search needs) (λ c. search needs) (λ c. search needs) returns-2)

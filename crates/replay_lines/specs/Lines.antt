@@ -1,0 +1,21 @@
+-- Lines, their names and their words. Definitions only.
+use Prim.Native.Nat.{ℕ, zero, suc, _+_}
+use mathlib.Core.Bool.{cond}
+use mathlib.Core.List.{List, [], _∷_}
+use lib.Dec.{ltb, eqb}
+use lib.ListN.{length, drop}
+use Rattle.replay_lines.specs.Hex.{hexOf}
+
+-- the bytes before the first b
+unfoldable pub upTo : ℕ → List ℕ → List ℕ
+upTo b [] = []
+upTo b (x ∷ s) = cond (eqb x b) [] (x ∷ upTo b s)
+
+-- the place behind the newline that ends the line that starts at a place
+unfoldable pub afterLine : List ℕ → ℕ → ℕ
+afterLine s at = cond (ltb at (length s)) (at + length (upTo 10 (drop at s)) + 1) (length s)
+
+-- n words, each after a space, from a place on
+unfoldable pub wordsOf : List ℕ → ℕ → ℕ → List ℕ
+wordsOf s at zero = []
+wordsOf s at (suc n) = hexOf s (at + 1) 16 ∷ wordsOf s (at + 17) n
