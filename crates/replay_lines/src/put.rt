@@ -6,9 +6,13 @@ pub fn word(n: u64) {
     io::print_hex(STDOUT_FILENO, n, 16);
 }
 
+pub fn space() {
+    io::write_all(STDOUT_FILENO, b" ");
+}
+
 // After a space.
 pub fn next(n: u64) {
-    io::write_all(STDOUT_FILENO, b" ");
+    space();
     word(n);
 }
 
