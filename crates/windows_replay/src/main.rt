@@ -3,120 +3,47 @@
 // same form, of a rate the refusal's number, the mark and the rate. `windows` has targets and calls on
 // windows of 24 places, each a kind (0 and 1 push, 2 and 3 pop, behind and in front, 4 rebuilds) and a
 // word, and is answered by digests. `rate_sat_kvb` says how its hurdles are worked out.
-ghost use Prim.Native.Nat.{_≤_};
-ghost use lib.ListN.{length};
-ghost use Rattle.io.specs.Counts.{Counts};
 use libc::STDIN_FILENO;
-use libc::STDOUT_FILENO;
 use rbitcoin_mempool::answer::CountAnswer;
 use rbitcoin_mempool::answer::Outcome;
 use rbitcoin_mempool::answer::RateAnswer;
 use rbitcoin_mempool::fee_analog;
 use rbitcoin_mempool::fee_analog::AnalogHistory;
 use rbitcoin_mempool::fee_analog::Update;
-
-fn put(n: u64) {
-    io::print_hex(STDOUT_FILENO, n, 16);
-}
-
-fn put_space() {
-    io::write_all(STDOUT_FILENO, b" ");
-}
-
-fn put_newline() {
-    io::write_all(STDOUT_FILENO, b"\n");
-}
-
-fn put_word(n: u64) {
-    put(n);
-    put_newline();
-}
+use replay_lines::digests;
+use replay_lines::digests::mix;
+use replay_lines::float_of;
+use replay_lines::put;
+use replay_lines::word_at;
+ghost use Prim.Native.Nat.{_≤_};
+ghost use lib.ListN.{length};
+ghost use Rattle.io.specs.Counts.{Counts};
 
 fn put_rate(answer: RateAnswer) {
     match answer {
-        RateAnswer::Found(rate) => put_fields(0, 1, rate),
-        RateAnswer::Nothing => put_fields(0, 0, 0),
-        RateAnswer::Refused(number) => put_fields(number as u64, 0, 0),
+        RateAnswer::Found(rate) => put::fields(0, 1, rate),
+        RateAnswer::Nothing => put::fields(0, 0, 0),
+        RateAnswer::Refused(number) => put::fields(number as u64, 0, 0),
     }
 }
 
-fn put_fields(refusal: u64, mark: u64, rate: u64) {
-    put(refusal);
-    put_space();
-    put(mark);
-    put_space();
-    put(rate);
-}
-
-// After a space.
-fn put_list(list: &[u64]) {
-    put_space();
-    put(list.len() as u64);
-    let mut i: usize = 0;
-    while i < list.len() {
-        put_space();
-        put(list[i]);
-        i += 1;
-    }
-}
-
-// At most `most`, which is at most 4,096.
-fn counted(n: u64, most: usize) -> usize
-    ensures { λ r. ⌜ r ≤ n ⌝ }
-    ensures { λ r. ⌜ r ≤ most ⌝ }
-    ensures { λ r. ⌜ r ≤ 4096 ⌝ }
-{
-    if most < 4096 {
-        if n < most as u64 {
-            return n as usize;
-        }
-        return most;
-    }
-    if n < 4096 {
-        return n as usize;
-    }
-    4096
-}
-
-// Reads a list from a place on: its length, and each element after a space. Answers how many elements
-// stand at the start of `out`.
-fn read_list(rest: &[u8], from: usize, out: &mut [u64]) -> usize
-    requires { ⌜ from ≤ 4096 ⌝ }
-    ensures { λ r. ⌜ Counts r (now (out .exit)) ⌝ }
-{
-    let n = counted(replay_lines::word(rest, from), out.len());
-    let mut i: usize = 0;
-    while i < n {
-        out[i] = replay_lines::word(rest, from + 17 + 17 * i);
-        i += 1;
-    }
-    n
-}
-
-fn median(rest: &[u8]) {
-    let mut list = [0u64; 512];
-    let n = read_list(rest, 1, &mut list);
-    put_rate(fee_analog::lower_median(&list[..n]));
-    put_newline();
+fn median(words: &[u64]) {
+    put_rate(fee_analog::lower_median(replay_lines::list(words, 0)));
+    put::newline();
 }
 
 // The quantile, and the list as it is left.
 fn put_quantile(outcomes: &mut [u64], confidence: f64) {
     put_rate(fee_analog::log_quantile(outcomes, confidence));
-    put_list(outcomes);
-    put_newline();
+    put::space();
+    put::list(outcomes);
+    put::newline();
 }
 
-fn quantile(rest: &[u8]) {
-    let confidence = replay_lines::float_of(replay_lines::word(rest, 1));
+fn quantile(words: &[u64]) {
     let mut list = [0u64; 512];
-    let n = read_list(rest, 18, &mut list);
-    put_quantile(&mut list[..n], confidence);
-}
-
-// A word added to the digest of those before it turned by a digit.
-fn mix(digest: u64, word: u64) -> u64 {
-    (digest << 1 | digest >> 63) ^ word
+    let n = replay_lines::copy_u64(replay_lines::list(words, 1), &mut list);
+    put_quantile(&mut list[..n], float_of(word_at(words, 0)));
 }
 
 fn number_of(o: Outcome) -> u64 {
@@ -137,7 +64,7 @@ fn count_of(a: CountAnswer) -> usize {
 fn read_from(word: u64, out: &mut [u64]) -> usize
     ensures { λ r. ⌜ Counts r (now (out .exit)) ⌝ }
 {
-    let n = counted(word % 32, out.len());
+    let n = replay_lines::at_most(word % 32, out);
     let mut i: usize = 0;
     while i < n {
         out[i] = word ^ i as u64;
@@ -190,23 +117,28 @@ struct Replayed {
 // The number of calls stands at a place, and their kinds and words after it.
 fn call_all(
     start: Replayed,
-    rest: &[u8],
+    words: &[u64],
     from: usize,
     hurdles: &mut [u64],
     befores: &mut [f64],
     aheads: &mut [u64],
 ) -> Replayed
-    requires { ⌜ from ≤ 4096 ⌝ }
+    requires { ⌜ from ≤ length (now words) ⌝ }
 {
-    let n = counted(replay_lines::word(rest, from), 64);
+    let n = replay_lines::at_most(word_at(words, from), words);
     let mut s = start.state;
     let mut refusals = start.refusals;
     let mut i: usize = 0;
     while i < n {
-        let at = from + 17 + 34 * i;
-        let kind = replay_lines::word(rest, at);
-        let word = replay_lines::word(rest, at + 17);
-        let r = called(s, kind, word, hurdles, befores, aheads);
+        let at = from + 1 + 2 * i;
+        let r = called(
+            s,
+            word_at(words, at),
+            word_at(words, at + 1),
+            hurdles,
+            befores,
+            aheads,
+        );
         let outcome = r.outcome;
         refusals = mix(refusals, number_of(outcome));
         s = r.state;
@@ -217,17 +149,7 @@ fn call_all(
 
 // The held hurdles.
 fn hurdles_digest(s: AnalogHistory, hurdles: &[u64]) -> u64 {
-    let mut digest: u64 = 0;
-    let mut i: usize = 0;
-    while i < hurdles.len() {
-        if s.start <= i {
-            if i - s.start < s.count {
-                digest = mix(digest, hurdles[i]);
-            }
-        }
-        i += 1;
-    }
-    digest
+    digests::digest_u64(0, replay_lines::part(hurdles, s.start, s.count))
 }
 
 // Whether place i is a window's that has a pair.
@@ -276,24 +198,9 @@ fn all_pairs(s: AnalogHistory, befores: &[f64], aheads: &[u64]) -> u64 {
     digest
 }
 
-// Reads up to 17 targets, and says how many they are.
-fn read_targets(rest: &[u8], out: &mut [u32]) -> usize
-    ensures { λ r. ⌜ r ≤ 17 ⌝ }
-    ensures { λ r. ⌜ Counts r (now (out .exit)) ⌝ }
-{
-    let most = counted(replay_lines::word(rest, 1), 17);
-    let n = counted(most as u64, out.len());
-    let mut i: usize = 0;
-    while i < n {
-        out[i] = (replay_lines::word(rest, 18 + 17 * i) % 4294967296) as u32;
-        i += 1;
-    }
-    n
-}
-
-fn windows(rest: &[u8]) {
+fn windows(words: &[u64]) {
     let mut targets = [0u32; 17];
-    let n = read_targets(rest, &mut targets);
+    let n = replay_lines::copy_u32(replay_lines::list(words, 0), &mut targets);
     let mut hurdles = [0u64; 24];
     let mut befores = [0.0; 384];
     let mut aheads = [0u64; 384];
@@ -304,68 +211,39 @@ fn windows(rest: &[u8]) {
     let start = Replayed { state, refusals };
     let after = call_all(
         start,
-        rest,
-        18 + 17 * n,
+        words,
+        replay_lines::after_list(words, 0),
         &mut hurdles,
         &mut befores,
         &mut aheads,
     );
     let s = after.state;
-    put(after.refusals);
-    put_space();
-    put(s.count as u64);
-    put_space();
-    put(hurdles_digest(s, &hurdles));
-    put_space();
-    put_word(all_pairs(s, &befores, &aheads));
-}
-
-// The next of a generator's words.
-fn next(x: u64) -> u64 {
-    let a = x ^ x << 13;
-    let b = a ^ a >> 7;
-    b ^ b << 17
-}
-
-// The hurdle with so many after it and itself: every third is above the level, and the last ones are
-// higher.
-fn hurdle(rest: &[u8], place: usize, left: u64, x: u64) -> u64 {
-    let mut out = replay_lines::word(rest, 18);
-    if place % 3 == 0 {
-        out = std::num::wrapping_add_u64(out, x & replay_lines::word(rest, 35));
-    }
-    if left <= replay_lines::word(rest, 52) {
-        out = std::num::wrapping_add_u64(out, replay_lines::word(rest, 69));
-    }
-    out
+    put::word(after.refusals);
+    put::next(s.count as u64);
+    put::next(hurdles_digest(s, &hurdles));
+    put::next(all_pairs(s, &befores, &aheads));
+    put::newline();
 }
 
 // The hurdles of a rate, and how many they are.
-fn read_hurdles(rest: &[u8], out: &mut [u64]) -> usize
+fn read_hurdles(words: &[u64], out: &mut [u64]) -> usize
     ensures { λ r. ⌜ Counts r (now (out .exit)) ⌝ }
 {
-    let n = counted(replay_lines::word(rest, 86), out.len());
-    let mut x = replay_lines::word(rest, 1);
+    let n = replay_lines::at_most(word_at(words, 5), out);
+    let mut x = word_at(words, 0);
     let mut i: usize = 0;
     while i < n {
-        x = next(x);
-        out[i] = hurdle(rest, i, (n - i) as u64, x);
+        x = digests::turned(x);
+        out[i] = digests::hurdle(words, i, (n - i) as u64, x);
         i += 1;
     }
     n
 }
 
-// At most as many as a list has.
-fn at_most(list: &[u64], n: u64) -> usize
-    ensures { λ r. ⌜ Counts r (now (list .entry)) ⌝ }
-{
-    counted(n, list.len())
-}
-
-fn rate(rest: &[u8]) {
+fn rate(words: &[u64]) {
     let mut from = [0u64; 2304];
-    let n = read_hurdles(rest, &mut from);
-    let target = (replay_lines::word(rest, 103) % 4294967296) as u32;
+    let n = read_hurdles(words, &mut from);
+    let target = (word_at(words, 6) % 4294967296) as u32;
     let mut hurdles = [0u64; 2304];
     let mut befores = [0.0; 2304];
     let mut aheads = [0u64; 2304];
@@ -373,20 +251,20 @@ fn rate(rest: &[u8]) {
     let opened = AnalogHistory::new(&targets, 2304, &hurdles, &befores, &aheads);
     let s = opened.state;
     let built = s.rebuild(&from[..n], &mut hurdles, &mut befores, &mut aheads);
-    put_scanned(built.state, target, rest, &hurdles, &befores, &aheads);
+    put_scanned(built.state, target, words, &hurdles, &befores, &aheads);
 }
 
 fn put_scanned(
     s: AnalogHistory,
     target: u32,
-    rest: &[u8],
+    words: &[u64],
     hurdles: &[u64],
     befores: &[f64],
     aheads: &[u64],
 ) {
-    let confidence = replay_lines::float_of(replay_lines::word(rest, 120));
+    let confidence = float_of(word_at(words, 7));
     let mut scratch = [0u64; 2304];
-    let z = at_most(&scratch, replay_lines::word(rest, 137));
+    let z = replay_lines::at_most(word_at(words, 8), &scratch);
     put_rate(s.rate_sat_kvb(
         target,
         confidence,
@@ -395,15 +273,15 @@ fn put_scanned(
         aheads,
         &mut scratch[..z],
     ));
-    put_newline();
+    put::newline();
 }
 
 // Answers a question of one number, and says whether the name was of one.
 fn of_number(name: &[u8], n: u64) -> bool {
     if check::same(name, b"analog_lookback") {
-        put_word(fee_analog::analog_lookback((n % 4294967296) as u32) as u64);
+        put::only(fee_analog::analog_lookback((n % 4294967296) as u32) as u64);
     } else if check::same(name, b"ln_rate") {
-        put_word(num::float::abs_bits(fee_analog::ln_rate(n)));
+        put::only(num::float::abs_bits(fee_analog::ln_rate(n)));
     } else {
         return false;
     }
@@ -411,31 +289,30 @@ fn of_number(name: &[u8], n: u64) -> bool {
 }
 
 fn answer(line: &[u8]) {
-    let stop = replay_lines::find(line, b' ', 0);
-    let name = &line[0..stop];
-    let rest = &line[stop..];
-    if of_number(name, replay_lines::word(rest, 1)) {
+    let name = replay_lines::name(line);
+    let mut words = [0u64; 512];
+    replay_lines::words(line, &mut words);
+    if of_number(name, words[0]) {
         return;
     }
     if check::same(name, b"lower_median") {
-        median(rest);
+        median(&words);
     } else if check::same(name, b"log_quantile") {
-        quantile(rest);
+        quantile(&words);
     } else if check::same(name, b"windows") {
-        windows(rest);
+        windows(&words);
     } else if check::same(name, b"rate_sat_kvb") {
-        rate(rest);
+        rate(&words);
     } else {
-        io::write_all(STDOUT_FILENO, b"unknown\n");
+        put::unknown();
     }
 }
 
 fn answer_all(lines: &[u8]) {
     let mut at: usize = 0;
     while at < lines.len() {
-        let stop = replay_lines::find(lines, b'\n', at);
-        answer(&lines[at..stop]);
-        at = stop + 1;
+        answer(replay_lines::line(lines, at));
+        at = replay_lines::next_line(lines, at);
     }
 }
 
