@@ -20,14 +20,8 @@ pub const CONFIDENCE_NEAR: f64 = 0.999;
 
 pub const CONFIDENCE_FAR: f64 = 0.99;
 
-// The share of N blocks to fill at each confidence, and the multiple of the inflow.
-pub const FILL_AT_NEAR: f64 = 0.80;
-
-pub const FILL_AT_FAR: f64 = 0.95;
-
+// The multiple of the inflow at N = 1.
 pub const LAMBDA_AT_NEAR: f64 = 2.0;
-
-pub const LAMBDA_AT_FAR: f64 = 1.0;
 
 // The inflow is projected at most this far.
 pub const INFLOW_HORIZON_CAP_SECS: u64 = 600;

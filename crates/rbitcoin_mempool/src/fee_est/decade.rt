@@ -6,6 +6,8 @@ ghost use Prim.Native.Nat.{_≤_, _<_};
 ghost use lib.Dec.{ltb};
 ghost use Rattle.rbitcoin_mempool.specs.Edges.{firstAbove};
 ghost use Rattle.rbitcoin_mempool.specs.Decade.{halfUnit, InDecade, Ranked, eighthStart, eighthEnd, FiveEdges};
+use super::edges::FLOW_BUCKET_EDGE_COUNT;
+use super::edges::FLOW_BUCKETS_PER_DECADE;
 
 // The place of the first of five edges of a decade, and the five.
 struct Five(usize, u64, u64, u64, u64, u64);
@@ -97,8 +99,8 @@ pub(crate) fn first_above(rate: u64) -> usize
         return 0;
     }
     if rate >= 1_000_000 {
-        return 401;
+        return FLOW_BUCKET_EDGE_COUNT;
     }
     let d = decade_of(rate);
-    100 * d + rank((2 * rate + 1) * half_unit(d))
+    FLOW_BUCKETS_PER_DECADE * d + rank((2 * rate + 1) * half_unit(d))
 }
