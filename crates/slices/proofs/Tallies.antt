@@ -8,7 +8,7 @@ use native.Mathlib.Omega.{arith}
 use lib.Dec.{ltb, leb, eqb, leb·suc-suc, leb·suc-zero}
 use lib.ListN.{length, getD, take, drop, take-append-drop}
 use lib.Seq.{take-suc}
-use borrow.Author.Tests.{lt-ltb, ltb-true, ltb-false, leb-true, leb-false, eqb-true, eqb-false, eq-eqb}
+use borrow.Author.Tests.{ltb-true, ltb-false, leb-true, leb-false, eqb-true, eqb-false}
 use Rattle.slices.specs.Sorted.{tally, atMost, below, equal}
 
 pub tally-append : (p : ℕ → Bool) (xs ys : List ℕ) → tally p (xs ++ ys) ≡ tally p xs + tally p ys
@@ -64,13 +64,3 @@ none-below (x ∷ xs) = rw (leb·suc-zero x) (omega (arith, none-below xs))
 
 pub below-suc : (v : ℕ) (xs : List ℕ) → below (suc v) xs ≡ atMost v xs
 below-suc v xs = ap (λ p. tally p xs) (fun-ext (λ x. leb·suc-suc x v))
-
--- an element occurs
-pub occurs : (xs : List ℕ) (i : ℕ) → i < length xs → 0 < equal (getD xs i 0) xs
-occurs xs i r =
-    let x = getD xs i 0 in
-    omega (arith, take-yes (λ y. eqb y x) xs i r (eq-eqb x x refl), tally-take (λ y. eqb y x) xs (i + 1))
-
--- where no element lies from lo to hi, those at most hi are below lo
-pub none-within : (lo hi : ℕ) (xs : List ℕ) → ((j : ℕ) → j < length xs → getD xs j 0 ≤ hi → getD xs j 0 < lo) → atMost hi xs ≤ below lo xs
-none-within lo hi xs h = tally-each (λ x. leb x hi) (λ x. ltb x lo) xs (λ j r e. lt-ltb _ _ (h j r (leb-true _ _ e)))
