@@ -15,17 +15,15 @@ pub(crate) fn lower_bound(heights: &[u32], lo: usize, hi: usize, height: u32) ->
     requires { ⌜ (lo ≤ hi) × (hi ≤ length (now heights)) ⌝ }
     ensures { λ r. ⌜ (r ≡ bisect (hi - lo) (now (heights .entry)) height lo hi) × (lo ≤ r) × (r ≤ hi) ⌝ }
 {
-    let mut a = lo;
-    let mut b = hi;
-    while a < b {
-        let mid = a + (b - a) / 2;
-        if heights[mid] < height {
-            a = mid + 1;
-        } else {
-            b = mid;
-        }
+    let mut base = lo;
+    let mut size = hi - lo;
+    while size > 0 {
+        let half = size / 2;
+        let less = (heights[base + half] < height) as usize;
+        base += less * (half + 1);
+        size = (size - less) / 2;
     }
-    a
+    base
 }
 
 // The row at a place before `end` is of that height.
