@@ -73,14 +73,14 @@ unfoldable pub coldRate : Option ℕ → Option ℕ → Option ℕ
 coldRate frontier (some h) = greater (some h) frontier
 coldRate frontier none = none
 
--- `depth_rate_sat_kvb` once flow is warm: flow, or else history, at one block; farther out their blend
+-- `depth_rate_sat_kvb` once flow is warm: flow, or else history, up to one block; farther out their blend
 unfoldable pub warmRate : ℕ → Option ℕ → Option ℕ → Option ℕ
 warmRate n flow hist = cond (leb n 1) (or flow hist) (blendSatKvb flow hist n)
 
 unfoldable pub depthRateSatKvb : ℕ → Bool → Option ℕ → Option ℕ → Option ℕ → Option ℕ
 depthRateSatKvb n warm flow frontier hist = cond warm (warmRate n flow hist) (coldRate frontier hist)
 
--- whether the confirm floor counts: at one block, by a share that is finite and above 0 before it is clamped
+-- whether the confirm floor counts: up to one block, by a share that is finite and above 0 before it is clamped
 unfoldable pub floored : ℕ → Float → Bool
 floored n alpha = leb n 1 && (isFinite alpha && lt zero64 alpha)
 

@@ -302,7 +302,7 @@ impl FeeHistory {
         }
     }
 
-    // The rate of each tracked target, in tracked order, at the front of the caller's lists: 1 block at 0.999, farther at
+    // The rate of each tracked target, in tracked order, at the front of the caller's lists: up to 1 block at 0.999, farther at
     // 0.95. A scan that finds a rate leaves `scratch` open.
     pub fn rates(
         self,

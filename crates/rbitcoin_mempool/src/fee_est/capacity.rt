@@ -15,12 +15,12 @@ pub const BLOCK_WEIGHT_WU: u64 = 4_000_000;
 // Seconds per planned block.
 pub const SECONDS_PER_BLOCK: u64 = 600;
 
-// Inclusion confidence at N = 1, and from N = 2 on.
+// Inclusion confidence up to N = 1, and from N = 2 on.
 pub const CONFIDENCE_NEAR: f64 = 0.999;
 
 pub const CONFIDENCE_FAR: f64 = 0.99;
 
-// The multiple of the inflow at N = 1.
+// The multiple of the inflow up to N = 1.
 pub const LAMBDA_AT_NEAR: f64 = 2.0;
 
 // The inflow is projected at most this far.
@@ -47,7 +47,7 @@ pub fn inflow_horizon_secs(n_blocks: u32) -> u64
     num::word::least(horizon_secs(n_blocks), INFLOW_HORIZON_CAP_SECS)
 }
 
-// 0.999 at N = 1 and 0.99 farther out.
+// 0.999 up to N = 1 and 0.99 farther out.
 pub fn inclusion_confidence(n_blocks: u32) -> f64
     ensures { λ r. ⌜ r ≡ inclusionConfidence «n_blocks» ⌝ }
 {
@@ -57,7 +57,7 @@ pub fn inclusion_confidence(n_blocks: u32) -> f64
     CONFIDENCE_FAR
 }
 
-// The capacity times the share to fill: 0.8 of a block at N = 1, and 0.95 of N blocks from 2 on.
+// The capacity times the share to fill: 0.8 of a block up to N = 1, and 0.95 of N blocks from 2 on.
 pub fn effective_capacity_wu(n_blocks: u32) -> u64
     ensures { λ r. ⌜ r ≡ effectiveCapacityWu «n_blocks» ⌝ }
 {

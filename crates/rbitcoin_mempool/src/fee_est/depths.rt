@@ -144,7 +144,7 @@ fn cold_rate(frontier: Rate, hist: Rate) -> Rate
     }
 }
 
-// Once flow is warm: flow at one block, or else history, and farther out their blend.
+// Once flow is warm: flow up to one block, or else history, and farther out their blend.
 fn warm_rate(n_blocks: u32, flow: Rate, hist: Rate) -> Rate
     ensures { λ r. ⌜ given r ≡ warmRate «n_blocks» (given flow) (given hist) ⌝ }
 {
@@ -183,7 +183,7 @@ fn is_floored(n_blocks: u32, alpha: f64) -> bool
     false
 }
 
-// The warm quote, with the confirm floor at one block.
+// The warm quote, with the confirm floor up to one block.
 fn floored_rate(n_blocks: u32, alpha: f64, warm: Rate, confirm: Rate) -> Rate
     ensures { λ r. ⌜ given r ≡ cond (floored «n_blocks» alpha) (greater (given warm) (given confirm)) (given warm) ⌝ }
 {

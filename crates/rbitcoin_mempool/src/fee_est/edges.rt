@@ -1,5 +1,5 @@
-// The bucket edges, a table whose rule is `flow_bucket_edges`'s series, and the search in it.
-// Contracts cite the rule, never the table.
+// The bucket edges, a table whose rule is `flow_bucket_edges`'s series, and the buckets that they make.
+// Contracts cite the rule, never the table; a rate's bucket is found without it (`decade`).
 ghost use mathlib.Core.Path.{_≡_};
 ghost use Rattle.rbitcoin_mempool.specs.Edges.{flowBucketEdges, bucketIndex, firstBucketAbove};
 use super::decade::first_above;

@@ -28,7 +28,7 @@ pub(crate) struct RateSlots {
     pub(crate) marks: [u8; 16],
 }
 
-// 0.999 at N = 1 and 0.95 farther out.
+// 0.999 up to N = 1 and 0.95 farther out.
 fn confidence_for(n: u32) -> f64
     ensures { λ r. ⌜ r ≡ confidenceOf n ⌝ }
 {
