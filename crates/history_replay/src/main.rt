@@ -1,11 +1,9 @@
 // Replays the oracle's questions about the held blocks. A line of standard input is a name and its
-// arguments, each of 16 hexadecimal digits; a line of standard output has the results in the same form.
-// `calls` has targets, a budget and calls on a history of 24 places, each two words: the call and its
-// block are worked out from them. It is answered by digests. `rates` says how its blocks are worked out.
-ghost use Prim.Native.Nat.{_≤_};
-ghost use Rattle.io.specs.Counts.{Counts};
+// words; a line of standard output has the results in the same form. Calls on a history are two words
+// each: the call and its block are worked out from them. `calls` has a budget, targets and calls on a
+// history of 24 places, and is answered by digests. `rates` says how its blocks are worked out, which are
+// connected to a history of 2,304 places; it has two targets.
 use libc::STDIN_FILENO;
-use libc::STDOUT_FILENO;
 use rbitcoin_mempool::answer::CountAnswer;
 use rbitcoin_mempool::answer::Outcome;
 use rbitcoin_mempool::answer::Rate;
@@ -14,55 +12,11 @@ use rbitcoin_net::fee_history::BlockHash;
 use rbitcoin_net::fee_history::FeeHistory;
 use rbitcoin_net::fee_history::HistoricalFeeBlock;
 use rbitcoin_net::fee_history::HistoryUpdate;
-
-fn put(n: u64) {
-    io::print_hex(STDOUT_FILENO, n, 16);
-}
-
-fn put_space() {
-    io::write_all(STDOUT_FILENO, b" ");
-}
-
-// After a space.
-fn put_next(n: u64) {
-    put_space();
-    put(n);
-}
-
-fn put_newline() {
-    io::write_all(STDOUT_FILENO, b"\n");
-}
-
-// At most `most`, which is at most 4,096.
-fn counted(n: u64, most: usize) -> usize
-    ensures { λ r. ⌜ r ≤ n ⌝ }
-    ensures { λ r. ⌜ r ≤ most ⌝ }
-    ensures { λ r. ⌜ r ≤ 4096 ⌝ }
-{
-    if most < 4096 {
-        if n < most as u64 {
-            return n as usize;
-        }
-        return most;
-    }
-    if n < 4096 {
-        return n as usize;
-    }
-    4096
-}
-
-// A word added to the digest of those before it turned by a digit.
-fn mix(digest: u64, word: u64) -> u64 {
-    (digest << 1 | digest >> 63) ^ word
-}
-
-fn mix_height(digest: u64, height: u32) -> u64 {
-    mix(digest, height as u64)
-}
-
-fn mix_byte(digest: u64, byte: u8) -> u64 {
-    mix(digest, byte as u64)
-}
+use replay_lines::digests;
+use replay_lines::digests::mix;
+use replay_lines::put;
+use replay_lines::word_at;
+ghost use Prim.Native.Nat.{_≤_};
 
 fn number_of(o: Outcome) -> u64 {
     match o {
@@ -137,15 +91,15 @@ fn called(
     s: FeeHistory,
     code: u64,
     word: u64,
-    heights: &mut [u32],
-    marks: &mut [u8],
-    rates: &mut [u64],
-    sizes: &mut [u64],
-    kept: &mut [u32],
-    bytes: &mut [u8],
-    hurdles: &mut [u64],
-    befores: &mut [f64],
-    aheads: &mut [u64],
+    heights: &mut [u32; 2304],
+    marks: &mut [u8; 2304],
+    rates: &mut [u64; 2304],
+    sizes: &mut [u64; 2304],
+    kept: &mut [u32; 144],
+    bytes: &mut [u8; 4608],
+    hurdles: &mut [u64; 2304],
+    befores: &mut [f64; 4608],
+    aheads: &mut [u64; 4608],
 ) -> HistoryUpdate {
     let height = height_of(code);
     let block = block_of(code, word);
@@ -192,73 +146,29 @@ struct Replayed {
     digest: u64,
 }
 
-// A call, and the block that it left at its height.
-fn next(
-    start: Replayed,
-    code: u64,
-    word: u64,
-    heights: &mut [u32],
-    marks: &mut [u8],
-    rates: &mut [u64],
-    sizes: &mut [u64],
-    kept: &mut [u32],
-    bytes: &mut [u8],
-    hurdles: &mut [u64],
-    befores: &mut [f64],
-    aheads: &mut [u64],
-) -> Replayed {
-    let s = start.state;
-    let r = called(
-        s,
-        code,
-        word,
-        heights,
-        marks,
-        rates,
-        sizes,
-        kept,
-        bytes,
-        hurdles,
-        befores,
-        aheads,
-    );
-    let outcome = r.outcome;
-    let state = r.state;
-    let held = state.get(height_of(code), heights, marks, rates, sizes);
-    let digest = found(mix(start.digest, number_of(outcome)), held);
-    Replayed { state, digest }
-}
-
-// Where the number of calls stands, behind the targets; their words stand after it.
-fn calls_at(rest: &[u8]) -> usize
-    ensures { λ r. ⌜ r ≤ 4096 ⌝ }
-{
-    35 + 17 * counted(replay_lines::word(rest, 18), 17)
-}
-
+// The calls, and the block that each left at its height.
 fn call_all(
     start: Replayed,
-    rest: &[u8],
-    heights: &mut [u32],
-    marks: &mut [u8],
-    rates: &mut [u64],
-    sizes: &mut [u64],
-    kept: &mut [u32],
-    bytes: &mut [u8],
-    hurdles: &mut [u64],
-    befores: &mut [f64],
-    aheads: &mut [u64],
+    calls: &[u64],
+    heights: &mut [u32; 2304],
+    marks: &mut [u8; 2304],
+    rates: &mut [u64; 2304],
+    sizes: &mut [u64; 2304],
+    kept: &mut [u32; 144],
+    bytes: &mut [u8; 4608],
+    hurdles: &mut [u64; 2304],
+    befores: &mut [f64; 4608],
+    aheads: &mut [u64; 4608],
 ) -> Replayed {
-    let from = calls_at(rest);
-    let n = counted(replay_lines::word(rest, from), 64);
-    let mut r = start;
+    let mut state = start.state;
+    let mut digest = start.digest;
     let mut i: usize = 0;
-    while i < n {
-        let at = from + 17 + 34 * i;
-        let code = replay_lines::word(rest, at);
-        let word = replay_lines::word(rest, at + 17);
-        r = next(
-            r,
+    while i < calls.len() {
+        let code = calls[i];
+        let word = word_at(calls, i + 1);
+        i += 2;
+        let r = called(
+            state,
             code,
             word,
             heights,
@@ -271,9 +181,16 @@ fn call_all(
             befores,
             aheads,
         );
-        i += 1;
+        let outcome = r.outcome;
+        state = r.state;
+        let held = state.get(height_of(code), heights, marks, rates, sizes);
+        digest = found(mix(digest, number_of(outcome)), held);
     }
-    r
+    Replayed { state, digest }
+}
+
+fn mix_row(digest: u64, height: u32, mark: u8) -> u64 {
+    mix(mix(digest, height as u64), mark as u64)
 }
 
 // Rows that were written.
@@ -282,31 +199,11 @@ fn rows_digest(n: usize, heights: &[u32], marks: &[u8], rates: &[u64], sizes: &[
     let mut i: usize = 0;
     while i < n {
         if i < heights.len() && i < marks.len() {
-            digest = mix_byte(mix_height(digest, heights[i]), marks[i]);
+            digest = mix_row(digest, heights[i], marks[i]);
         }
         if i < rates.len() && i < sizes.len() {
             digest = mix(mix(digest, rates[i]), sizes[i]);
         }
-        i += 1;
-    }
-    digest
-}
-
-fn heights_digest(digest: u64, heights: &[u32]) -> u64 {
-    let mut digest = digest;
-    let mut i: usize = 0;
-    while i < heights.len() {
-        digest = mix_height(digest, heights[i]);
-        i += 1;
-    }
-    digest
-}
-
-fn bytes_digest(digest: u64, bytes: &[u8]) -> u64 {
-    let mut digest = digest;
-    let mut i: usize = 0;
-    while i < bytes.len() {
-        digest = mix_byte(digest, bytes[i]);
         i += 1;
     }
     digest
@@ -328,8 +225,8 @@ fn put_entries(s: FeeHistory, heights: &[u32], marks: &[u8], rates: &[u64], size
         &mut out_rates,
         &mut out_sizes,
     ));
-    put_next(n as u64);
-    put_next(rows_digest(n, &out_heights, &out_marks, &out_rates, &out_sizes));
+    put::next(n as u64);
+    put::next(rows_digest(n, &out_heights, &out_marks, &out_rates, &out_sizes));
 }
 
 // The hashes, as `recent_hashes` writes them into lists of zeros: their number and a digest.
@@ -337,319 +234,105 @@ fn put_hashes(s: FeeHistory, heights: &[u32], bytes: &[u8]) {
     let mut out_heights = [0u32; 144];
     let mut out_bytes = [0u8; 4608];
     let n = count_of(s.recent_hashes(heights, bytes, &mut out_heights, &mut out_bytes));
-    put_next(n as u64);
-    put_next(bytes_digest(heights_digest(0, &out_heights), &out_bytes));
+    put::next(n as u64);
+    put::next(digests::digest_u8(digests::digest_u32(0, &out_heights), &out_bytes));
 }
 
 // The total, the number of hurdles and whether they are stale.
 fn put_state(s: FeeHistory) {
     let analog = s.analog;
-    put_next(s.txstat_bytes);
-    put_next(analog.count as u64);
+    put::next(s.txstat_bytes);
+    put::next(analog.count as u64);
     if s.analog_stale {
-        put_next(1);
+        put::next(1);
     } else {
-        put_next(0);
+        put::next(0);
     }
-}
-
-// Reads up to 17 targets, and says how many they are.
-fn read_targets(rest: &[u8], out: &mut [u32]) -> usize
-    ensures { λ r. ⌜ r ≤ 17 ⌝ }
-    ensures { λ r. ⌜ Counts r (now (out .exit)) ⌝ }
-{
-    let most = counted(replay_lines::word(rest, 18), 17);
-    let n = counted(most as u64, out.len());
-    let mut i: usize = 0;
-    while i < n {
-        out[i] = (replay_lines::word(rest, 35 + 17 * i) % 4294967296) as u32;
-        i += 1;
-    }
-    n
 }
 
 fn put_replayed(
     after: Replayed,
-    heights: &[u32],
-    marks: &[u8],
-    rates: &[u64],
-    sizes: &[u64],
-    kept: &[u32],
-    bytes: &[u8],
+    heights: &[u32; 2304],
+    marks: &[u8; 2304],
+    rates: &[u64; 2304],
+    sizes: &[u64; 2304],
+    kept: &[u32; 144],
+    bytes: &[u8; 4608],
 ) {
     let s = after.state;
-    put(after.digest);
+    put::word(after.digest);
     put_state(s);
     put_entries(s, heights, marks, rates, sizes);
     put_hashes(s, kept, bytes);
-    put_newline();
+    put::newline();
 }
 
-fn opened(
-    rest: &[u8],
-    heights: &[u32],
-    marks: &[u8],
-    rates: &[u64],
-    sizes: &[u64],
-    kept: &[u32],
-    bytes: &[u8],
-    hurdles: &[u64],
-    befores: &[f64],
-    aheads: &[u64],
-) -> Replayed {
-    let mut targets = [0u32; 17];
-    let n = read_targets(rest, &mut targets);
-    let r = FeeHistory::new(
-        replay_lines::word(rest, 1),
-        &targets[..n],
-        24,
-        heights,
-        marks,
-        rates,
-        sizes,
-        kept,
-        bytes,
-        hurdles,
-        befores,
-        aheads,
-    );
-    let outcome = r.outcome;
-    let state = r.state;
-    let digest = number_of(outcome);
-    Replayed { state, digest }
-}
-
-fn replay(
-    rest: &[u8],
-    heights: &mut [u32],
-    marks: &mut [u8],
-    rates: &mut [u64],
-    sizes: &mut [u64],
-    kept: &mut [u32],
-    bytes: &mut [u8],
-    hurdles: &mut [u64],
-    befores: &mut [f64],
-    aheads: &mut [u64],
-) {
-    let start = opened(
-        rest,
-        heights,
-        marks,
-        rates,
-        sizes,
-        kept,
-        bytes,
-        hurdles,
-        befores,
-        aheads,
-    );
-    let after = call_all(
-        start,
-        rest,
-        heights,
-        marks,
-        rates,
-        sizes,
-        kept,
-        bytes,
-        hurdles,
-        befores,
-        aheads,
-    );
-    put_replayed(after, heights, marks, rates, sizes, kept, bytes);
-}
-
-fn calls(rest: &[u8]) {
-    let mut heights = [0u32; 24];
-    let mut marks = [0u8; 24];
-    let mut rates = [0u64; 24];
-    let mut sizes = [0u64; 24];
-    let mut kept = [0u32; 144];
-    let mut bytes = [0u8; 4608];
-    let mut hurdles = [0u64; 24];
-    let mut befores = [0.0; 384];
-    let mut aheads = [0u64; 384];
-    replay(
-        rest,
-        &mut heights,
-        &mut marks,
-        &mut rates,
-        &mut sizes,
-        &mut kept,
-        &mut bytes,
-        &mut hurdles,
-        &mut befores,
-        &mut aheads,
-    );
-}
-
-// The next of a generator's words.
-fn turned(x: u64) -> u64 {
-    let a = x ^ x << 13;
-    let b = a ^ a >> 7;
-    b ^ b << 17
-}
-
-// The block with so many after it and itself: every third rate is above the level, and the last ones are
-// higher.
-fn block_at(rest: &[u8], place: usize, left: u64, x: u64) -> HistoricalFeeBlock {
-    let mut rate = replay_lines::word(rest, 18);
-    if place % 3 == 0 {
-        rate = std::num::wrapping_add_u64(rate, x & replay_lines::word(rest, 35));
+// How many blocks are connected.
+fn connected(words: &[u64]) -> usize
+    ensures { λ r. ⌜ r ≤ 2304 ⌝ }
+{
+    let n = word_at(words, 5);
+    if n < 2304 {
+        return n as usize;
     }
-    if left <= replay_lines::word(rest, 52) {
-        rate = std::num::wrapping_add_u64(rate, replay_lines::word(rest, 69));
-    }
-    HistoricalFeeBlock {
-        p10_sat_kvb: Rate::There(rate),
-        txstat_bytes: 1,
+    2304
+}
+
+fn put_call(out: &mut [u64; 4610], i: usize, code: u64, word: u64) {
+    if i < 2305 {
+        out[2 * i] = code;
+        out[2 * i + 1] = word;
     }
 }
 
-fn height_at(i: u64) -> u32 {
-    (i % 4294967296) as u32
-}
-
-fn connected(
-    s: FeeHistory,
-    height: u32,
-    block: HistoricalFeeBlock,
-    heights: &mut [u32],
-    marks: &mut [u8],
-    rates: &mut [u64],
-    sizes: &mut [u64],
-    kept: &mut [u32],
-    bytes: &mut [u8],
-    hurdles: &mut [u64],
-    befores: &mut [f64],
-    aheads: &mut [u64],
-) -> FeeHistory {
-    let r = s.insert(
-        height,
-        block,
-        hash_of(0, 0),
-        heights,
-        marks,
-        rates,
-        sizes,
-        kept,
-        bytes,
-        hurdles,
-        befores,
-        aheads,
-    );
-    r.state
-}
-
-// Every second height connected, from 0 on.
-fn connect_all(
-    start: FeeHistory,
-    rest: &[u8],
-    heights: &mut [u32],
-    marks: &mut [u8],
-    rates: &mut [u64],
-    sizes: &mut [u64],
-    kept: &mut [u32],
-    bytes: &mut [u8],
-    hurdles: &mut [u64],
-    befores: &mut [f64],
-    aheads: &mut [u64],
-) -> FeeHistory {
-    let n = counted(replay_lines::word(rest, 86), 2304);
-    let mut s = start;
-    let mut x = replay_lines::word(rest, 1);
+// The calls that connect every second height, from 0 on, and preload a block between held heights, so that
+// the windows are stale.
+fn generated(words: &[u64], out: &mut [u64; 4610]) -> usize {
+    let n = connected(words);
+    let mut x = word_at(words, 0);
     let mut i: usize = 0;
     while i < n {
-        x = turned(x);
-        let block = block_at(rest, i, (n - i) as u64, x);
-        s = connected(
-            s,
-            height_at(2 * i as u64),
-            block,
-            heights,
-            marks,
-            rates,
-            sizes,
-            kept,
-            bytes,
-            hurdles,
-            befores,
-            aheads,
-        );
+        x = digests::turned(x);
+        let word = digests::hurdle(words, i, (n - i) as u64, x);
+        put_call(out, i, (2 * i as u64) << 32 | 4, word);
         i += 1;
     }
-    s
-}
-
-// A block between held heights, so that the windows are stale.
-fn preloaded(
-    s: FeeHistory,
-    rest: &[u8],
-    heights: &mut [u32],
-    marks: &mut [u8],
-    rates: &mut [u64],
-    sizes: &mut [u64],
-    kept: &mut [u32],
-    bytes: &mut [u8],
-    hurdles: &mut [u64],
-    befores: &mut [f64],
-    aheads: &mut [u64],
-) -> FeeHistory {
-    if replay_lines::word(rest, 137) == 0 {
-        return s;
+    if word_at(words, 8) == 0 {
+        return 2 * n;
     }
-    let r = s.insert_if_absent(
-        1001,
-        block_at(rest, 1, 4294967296, 0),
-        hash_of(0, 0),
-        heights,
-        marks,
-        rates,
-        sizes,
-        kept,
-        bytes,
-        hurdles,
-        befores,
-        aheads,
-    );
-    r.state
+    put_call(out, n, 1001 << 32 | 5, word_at(words, 1));
+    2 * n + 2
 }
 
 fn put_mark(mark: u8) {
-    put_next(mark as u64);
+    put::next(mark as u64);
 }
 
 // The refusal, and the answer's lists whole.
 fn put_answer(refusal: u64, numbers: [u64; 3], marks: [u8; 3]) {
-    put(refusal);
+    put::word(refusal);
     put_mark(marks[0]);
-    put_next(numbers[0]);
+    put::next(numbers[0]);
     put_mark(marks[1]);
-    put_next(numbers[1]);
+    put::next(numbers[1]);
     put_mark(marks[2]);
-    put_next(numbers[2]);
+    put::next(numbers[2]);
 }
 
-// At most as many as a list has.
-fn at_most(list: &[u64], n: u64) -> usize
-    ensures { λ r. ⌜ Counts r (now (list .entry)) ⌝ }
-{
-    counted(n, list.len())
-}
-
+// The places are the scratch list's.
 fn put_rates(
     s: FeeHistory,
-    rest: &[u8],
-    heights: &[u32],
-    marks: &[u8],
-    rates: &[u64],
-    sizes: &[u64],
-    hurdles: &mut [u64],
-    befores: &mut [f64],
-    aheads: &mut [u64],
+    places: u64,
+    heights: &[u32; 2304],
+    marks: &[u8; 2304],
+    rates: &[u64; 2304],
+    sizes: &[u64; 2304],
+    hurdles: &mut [u64; 2304],
+    befores: &mut [f64; 4608],
+    aheads: &mut [u64; 4608],
 ) -> FeeHistory {
     let mut scratch = [0u64; 2304];
-    let z = at_most(&scratch, replay_lines::word(rest, 154));
+    let z = replay_lines::at_most(places, &scratch);
     let mut out_numbers = [77u64; 3];
     let mut out_marks = [77u8; 3];
     let r = s.rates(
@@ -672,18 +355,18 @@ fn put_rates(
 // Fresh rates, then kept ones.
 fn put_both(
     s: FeeHistory,
-    rest: &[u8],
-    heights: &[u32],
-    marks: &[u8],
-    rates: &[u64],
-    sizes: &[u64],
-    hurdles: &mut [u64],
-    befores: &mut [f64],
-    aheads: &mut [u64],
+    places: u64,
+    heights: &[u32; 2304],
+    marks: &[u8; 2304],
+    rates: &[u64; 2304],
+    sizes: &[u64; 2304],
+    hurdles: &mut [u64; 2304],
+    befores: &mut [f64; 4608],
+    aheads: &mut [u64; 4608],
 ) {
     let fresh = put_rates(
         s,
-        rest,
+        places,
         heights,
         marks,
         rates,
@@ -692,10 +375,10 @@ fn put_both(
         befores,
         aheads,
     );
-    put_space();
+    put::space();
     put_rates(
         fresh,
-        rest,
+        places,
         heights,
         marks,
         rates,
@@ -704,158 +387,11 @@ fn put_both(
         befores,
         aheads,
     );
-    put_newline();
+    put::newline();
 }
 
-fn filled(
-    rest: &[u8],
-    heights: &mut [u32],
-    marks: &mut [u8],
-    rates: &mut [u64],
-    sizes: &mut [u64],
-    kept: &mut [u32],
-    bytes: &mut [u8],
-    hurdles: &mut [u64],
-    befores: &mut [f64],
-    aheads: &mut [u64],
-) -> FeeHistory {
-    let s = tracking(
-        rest,
-        heights,
-        marks,
-        rates,
-        sizes,
-        kept,
-        bytes,
-        hurdles,
-        befores,
-        aheads,
-    );
-    connect_all(
-        s,
-        rest,
-        heights,
-        marks,
-        rates,
-        sizes,
-        kept,
-        bytes,
-        hurdles,
-        befores,
-        aheads,
-    )
-}
-
-fn preloaded_too(
-    rest: &[u8],
-    heights: &mut [u32],
-    marks: &mut [u8],
-    rates: &mut [u64],
-    sizes: &mut [u64],
-    kept: &mut [u32],
-    bytes: &mut [u8],
-    hurdles: &mut [u64],
-    befores: &mut [f64],
-    aheads: &mut [u64],
-) -> FeeHistory {
-    let s = filled(
-        rest,
-        heights,
-        marks,
-        rates,
-        sizes,
-        kept,
-        bytes,
-        hurdles,
-        befores,
-        aheads,
-    );
-    preloaded(
-        s,
-        rest,
-        heights,
-        marks,
-        rates,
-        sizes,
-        kept,
-        bytes,
-        hurdles,
-        befores,
-        aheads,
-    )
-}
-
-fn put_rated(
-    rest: &[u8],
-    heights: &mut [u32],
-    marks: &mut [u8],
-    rates: &mut [u64],
-    sizes: &mut [u64],
-    kept: &mut [u32],
-    bytes: &mut [u8],
-    hurdles: &mut [u64],
-    befores: &mut [f64],
-    aheads: &mut [u64],
-) {
-    let s = preloaded_too(
-        rest,
-        heights,
-        marks,
-        rates,
-        sizes,
-        kept,
-        bytes,
-        hurdles,
-        befores,
-        aheads,
-    );
-    put_both(
-        s,
-        rest,
-        heights,
-        marks,
-        rates,
-        sizes,
-        hurdles,
-        befores,
-        aheads,
-    );
-}
-
-// A history of two targets.
-fn tracking(
-    rest: &[u8],
-    heights: &[u32],
-    marks: &[u8],
-    rates: &[u64],
-    sizes: &[u64],
-    kept: &[u32],
-    bytes: &[u8],
-    hurdles: &[u64],
-    befores: &[f64],
-    aheads: &[u64],
-) -> FeeHistory {
-    let first = height_at(replay_lines::word(rest, 103));
-    let second = height_at(replay_lines::word(rest, 120));
-    let targets = [first, second];
-    let r = FeeHistory::new(
-        u64::MAX,
-        &targets,
-        2304,
-        heights,
-        marks,
-        rates,
-        sizes,
-        kept,
-        bytes,
-        hurdles,
-        befores,
-        aheads,
-    );
-    r.state
-}
-
-fn rates(rest: &[u8]) {
+// Opens a history over memory of its own and calls it. A question of rates has places of a scratch list.
+fn replay(budget: u64, targets: &[u32], capacity: usize, calls: &[u64], rated: bool, places: u64) {
     let mut heights = [0u32; 2304];
     let mut marks = [0u8; 2304];
     let mut rates = [0u64; 2304];
@@ -865,8 +401,26 @@ fn rates(rest: &[u8]) {
     let mut hurdles = [0u64; 2304];
     let mut befores = [0.0; 4608];
     let mut aheads = [0u64; 4608];
-    put_rated(
-        rest,
+    let r = FeeHistory::new(
+        budget,
+        targets,
+        capacity,
+        &heights,
+        &marks,
+        &rates,
+        &sizes,
+        &kept,
+        &bytes,
+        &hurdles,
+        &befores,
+        &aheads,
+    );
+    let outcome = r.outcome;
+    let state = r.state;
+    let digest = number_of(outcome);
+    let after = call_all(
+        Replayed { state, digest },
+        calls,
         &mut heights,
         &mut marks,
         &mut rates,
@@ -877,27 +431,71 @@ fn rates(rest: &[u8]) {
         &mut befores,
         &mut aheads,
     );
+    if rated {
+        let s = after.state;
+        put_both(
+            s,
+            places,
+            &heights,
+            &marks,
+            &rates,
+            &sizes,
+            &mut hurdles,
+            &mut befores,
+            &mut aheads,
+        );
+        return;
+    }
+    put_replayed(after, &heights, &marks, &rates, &sizes, &kept, &bytes);
+}
+
+fn first(calls: &[u64; 4610], n: usize) -> &[u64] {
+    replay_lines::part(calls, 0, n)
+}
+
+fn calls(words: &[u64]) {
+    let mut targets = [0u32; 17];
+    let n = replay_lines::copy_u32(replay_lines::list(words, 1), &mut targets);
+    let targets = &targets[..n];
+    let from = replay_lines::after_list(words, 1);
+    let k = replay_lines::at_most(word_at(words, from), words);
+    let calls = replay_lines::part(words, from + 1, 2 * k);
+    replay(word_at(words, 0), targets, 24, calls, false, 0);
+}
+
+fn rates(words: &[u64]) {
+    let mut targets = [0u32; 2];
+    replay_lines::copy_u32(replay_lines::part(words, 6, 2), &mut targets);
+    let mut calls = [0u64; 4610];
+    let n = generated(words, &mut calls);
+    replay(
+        u64::MAX,
+        &targets,
+        2304,
+        first(&calls, n),
+        true,
+        word_at(words, 9),
+    );
 }
 
 fn answer(line: &[u8]) {
-    let stop = replay_lines::find(line, b' ', 0);
-    let name = &line[0..stop];
-    let rest = &line[stop..];
+    let name = replay_lines::name(line);
+    let mut words = [0u64; 512];
+    replay_lines::words(line, &mut words);
     if check::same(name, b"calls") {
-        calls(rest);
+        calls(&words);
     } else if check::same(name, b"rates") {
-        rates(rest);
+        rates(&words);
     } else {
-        io::write_all(STDOUT_FILENO, b"unknown\n");
+        put::unknown();
     }
 }
 
 fn answer_all(lines: &[u8]) {
     let mut at: usize = 0;
     while at < lines.len() {
-        let stop = replay_lines::find(lines, b'\n', at);
-        answer(&lines[at..stop]);
-        at = stop + 1;
+        answer(replay_lines::line(lines, at));
+        at = replay_lines::next_line(lines, at);
     }
 }
 

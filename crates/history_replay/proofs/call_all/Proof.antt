@@ -1,93 +1,19 @@
--- `history_replay::call_all` meets its contract: each turn passes a call. Assumes nothing.
-use mathlib.Core.Path.{_≡_, _∙_}
-use Prim.Native.Nat.{_≤_, _-_}
+-- `history_replay::call_all` ends: each turn passes a call. Assumes nothing.
+use Prim.Native.Nat.{_-_}
+use borrow.Author.Needs.{needs}
 use native.Mathlib.Omega.{arith}
 use lib.ListN.{length}
-use borrow.Author.Needs.{needs}
 use Rattle.history_replay.proofs.call_all.Statement.{statement}
 use Rattle.history_replay.proofs.call_all.Tie as tie
 
 abbrev Inv-loop : tie.InvT-loop
-Inv-loop rest heights₀ marks₀ rates₀ sizes₀ kept₀ bytes₀ hurdles₀ befores₀ aheads₀ from n r₀ i₀ heights marks rates sizes kept bytes hurdles befores aheads r i = (i ≤ n) × (n ≤ 4096) × (from ≤ 4096) × (length heights ≡ length heights₀) × (length marks ≡ length marks₀) × (length rates ≡ length rates₀) × (length sizes ≡ length sizes₀) × (length kept ≡ length kept₀) × (length bytes ≡ length bytes₀) × (length hurdles ≡ length hurdles₀) × (length befores ≡ length befores₀) × (length aheads ≡ length aheads₀)
+Inv-loop calls heights₀ marks₀ rates₀ sizes₀ kept₀ bytes₀ hurdles₀ befores₀ aheads₀ state₀ digest₀ i₀ heights marks rates sizes kept bytes hurdles befores aheads state digest i = Unit {0}
 
 abbrev μ-loop : tie.MeasureT-loop
-μ-loop rest heights₀ marks₀ rates₀ sizes₀ kept₀ bytes₀ hurdles₀ befores₀ aheads₀ from n r₀ i₀ heights marks rates sizes kept bytes hurdles befores aheads r i = n - i
-
-calls-at-requires : tie.Need-calls-at-requires Inv-loop μ-loop
-calls-at-requires c κs = search needs
-
-word-requires : tie.Need-word-requires Inv-loop μ-loop
-word-requires c κs = search needs
-
-counted-requires : tie.Need-counted-requires Inv-loop μ-loop
-counted-requires c κs = search needs
-
-loop-holds : tie.Need-loop-holds Inv-loop μ-loop
-loop-holds c = search needs
-
-add-at : tie.Need-add-at Inv-loop μ-loop
-add-at c = search needs
-
-mul-at : tie.Need-mul-at Inv-loop μ-loop
-mul-at c = search needs
-
-add-at-2 : tie.Need-add-at-2 Inv-loop μ-loop
-add-at-2 c = search needs
-
-word-requires-2 : tie.Need-word-requires-2 Inv-loop μ-loop
-word-requires-2 c κs = search needs
-
-add-word : tie.Need-add-word Inv-loop μ-loop
-add-word c = search needs
-
-word-requires-3 : tie.Need-word-requires-3 Inv-loop μ-loop
-word-requires-3 c κs = search needs
-
-next-requires : tie.Need-next-requires Inv-loop μ-loop
-next-requires c κs = search needs
-
-add-i : tie.Need-add-i Inv-loop μ-loop
-add-i c = let t = c .before .before .before .before .before .before .before .before .before .before .before .before .before .before .before .before .before .before .before .before .before .before .before .before .before .before .before .before .before .before .loop-test .taken in let l = c .before .before .before .before .before .before .before .before .before .before .before .before .before .before .before .before .before .before .before .before .before .before .before .before .before .before .before .before .before .before .before .loop .inv .1 in omega arith
+μ-loop calls heights₀ marks₀ rates₀ sizes₀ kept₀ bytes₀ hurdles₀ befores₀ aheads₀ state₀ digest₀ i₀ heights marks rates sizes kept bytes hurdles befores aheads state digest i = length calls - i
 
 loop-less : tie.Need-loop-less Inv-loop μ-loop
-loop-less c = let t = c .before .before .before .before .before .before .before .before .before .before .before .before .before .before .before .before .before .before .before .before .before .before .before .before .before .before .before .before .before .before .loop-test .taken in omega arith
-
-loop-again : tie.Need-loop-again Inv-loop μ-loop
-loop-again c =
-    let t = c .before .before .before .before .before .before .before .before .before .before .before .before .before .before .before .before .before .before .before .before .before .before .before .before .before .before .before .before .before .before .loop-test .taken in
-    let l = c .before .before .before .before .before .before .before .before .before .before .before .before .before .before .before .before .before .before .before .before .before .before .before .before .before .before .before .before .before .before .before .loop .inv in
-    let k = c .before .before .before .before .before .before .before .before .before .before .before .before .before .before .before .before .before .before .next .kept in
-    (omega arith, l .1, l .2, k .1 .1 .1 .0 ∙ l .3, k .1 .1 .1 .1 .0 ∙ l .4, k .1 .1 .1 .1 .1 .0 ∙ l .5, k .1 .1 .1 .1 .1 .1 .0 ∙ l .6, k .1 .1 .1 .1 .1 .1 .1 .0 ∙ l .7, k .1 .1 .1 .1 .1 .1 .1 .1 .0 ∙ l .8, k .1 .1 .1 .1 .1 .1 .1 .1 .1 .0 ∙ l .9, k .1 .1 .1 .1 .1 .1 .1 .1 .1 .1 .0 ∙ l .10, k .1 .1 .1 .1 .1 .1 .1 .1 .1 .1 .1 .0 ∙ l .11)
-
-same-length : tie.Need-same-length Inv-loop μ-loop
-same-length c = search needs
-
-same-length-2 : tie.Need-same-length-2 Inv-loop μ-loop
-same-length-2 c = search needs
-
-same-length-3 : tie.Need-same-length-3 Inv-loop μ-loop
-same-length-3 c = search needs
-
-same-length-4 : tie.Need-same-length-4 Inv-loop μ-loop
-same-length-4 c = search needs
-
-same-length-5 : tie.Need-same-length-5 Inv-loop μ-loop
-same-length-5 c = search needs
-
-same-length-6 : tie.Need-same-length-6 Inv-loop μ-loop
-same-length-6 c = search needs
-
-same-length-7 : tie.Need-same-length-7 Inv-loop μ-loop
-same-length-7 c = search needs
-
-same-length-8 : tie.Need-same-length-8 Inv-loop μ-loop
-same-length-8 c = search needs
-
-same-length-9 : tie.Need-same-length-9 Inv-loop μ-loop
-same-length-9 c = search needs
-
-returns : tie.Need-returns Inv-loop μ-loop
-returns c = search needs
+loop-less c = let t = c .before .before .before .before .before .before .before .before .before .before .before .before .before .before .before .before .before .before .before .before .before .before .before .before .before .before .loop-test .taken in omega arith
 
 pub call-all-spec : {M : Type 1} → statement M
 call-all-spec =
@@ -95,27 +21,18 @@ call-all-spec =
     (tie.spec
     Inv-loop
     μ-loop
-    calls-at-requires
-    word-requires
-    counted-requires
-    loop-holds
-    add-at
-    mul-at
-    add-at-2
-    word-requires-2
-    add-word
-    word-requires-3
-    next-requires
-    add-i
+    (λ c. search needs)
+    (λ c. search needs)
+    (λ c. search needs)
+    (λ c. search needs)
+    (λ c κs. search needs)
+    (λ c. search needs)
+    (λ c κs. search needs)
+    (λ c κs. search needs)
+    (λ c κs. search needs)
+    (λ c κs. search needs)
+    (λ c κs. search needs)
+    (λ c κs. search needs)
     loop-less
-    loop-again
-    same-length
-    same-length-2
-    same-length-3
-    same-length-4
-    same-length-5
-    same-length-6
-    same-length-7
-    same-length-8
-    same-length-9
-    returns)
+    (λ c. search needs)
+    (λ c. search needs))
