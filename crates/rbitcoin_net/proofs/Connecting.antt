@@ -1,24 +1,23 @@
 -- `insert`: the code's branches and steps by the definitions. Assumes nothing.
-use Prim.Native.Nat.{ℕ, zero, suc, _+_, _-_, _≤_, _<_}
+use Prim.Native.Nat.{ℕ, _+_, _-_, _≤_, _<_}
 use mathlib.Core.Path.{_≡_, refl, sym, _∙_, ap, subst}
-use mathlib.Core.Bool.{Bool, true, false, cond}
+use mathlib.Core.Bool.{cond}
 use mathlib.Core.List.{List, []}
 use mathlib.Core.Option.{Option}
 use native.Mathlib.Omega.{arith}
-use lib.Dec.{eqb}
 use lib.Ieee.{Float}
 use lib.ListN.{length}
 use borrow.Author.Tests.{eq-eqb, ne-eqb}
 use Rattle.rbitcoin_mempool.specs.declared.fee_analog.history.AnalogHistory.{AnalogHistory}
 use Rattle.rbitcoin_mempool.specs.Pairs.{pushBack}
-use Rattle.rbitcoin_mempool.specs.Windows.{Windows, windows, orElse, pushBackOf}
-use Rattle.rbitcoin_mempool.proofs.Refusals.{first-stands, then-second, or-else-second}
+use Rattle.rbitcoin_mempool.specs.Windows.{Windows, windows, pushBackOf}
+use Rattle.rbitcoin_mempool.proofs.Refusals.{first-stands, then-second}
 use Rattle.rbitcoin_net.specs.declared.fee_history.HistoricalFeeBlock.{HistoricalFeeBlock}
 use Rattle.rbitcoin_net.specs.declared.fee_history.FeeHistory.{FeeHistory}
 use Rattle.rbitcoin_net.specs.History.{hurdleOf}
 use Rattle.rbitcoin_net.specs.Lent.{Rows, rows, Hashes, hashes, Lent, lent, windowsOf, lentRefusal}
 use Rattle.rbitcoin_net.specs.Search.{bisect, placeOf}
-use Rattle.rbitcoin_net.specs.Hashes.{Kept, kept, Room, hashPlace}
+use Rattle.rbitcoin_net.specs.Hashes.{kept, Room, hashPlace}
 use Rattle.rbitcoin_net.specs.Cuts.{withHashes, unkept, cutAt, dropFrom}
 use Rattle.rbitcoin_net.specs.Rooms.{Roomy}
 use Rattle.rbitcoin_net.specs.Inserts.{sizesRefusal, insertRefusal, Placed, Whole, whole, Filed, filed, withWindows, pushRate, storeIn, insertIn}

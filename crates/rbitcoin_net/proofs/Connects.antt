@@ -1,35 +1,35 @@
 -- `insert`: what it does to a sound state's view is what the Rust does, and the state is sound again. Assumes nothing.
-use Prim.Native.Nat.{ℕ, zero, suc, _+_, _-_, _^_, _≤_, _<_}
+use Prim.Native.Nat.{ℕ, _+_, _-_, _^_, _<_}
 use mathlib.Core.Path.{_≡_, refl, sym, _∙_, ap, subst}
 use mathlib.Core.Logic.{⊎-elim}
 use mathlib.Core.Bool.{Bool, true, false, cond, _&&_}
 use mathlib.Core.List.{List, [], _∷_, _++_}
-use mathlib.Core.Option.{Option, none, some}
+use mathlib.Core.Option.{Option}
 use native.Mathlib.Omega.{arith}
-use lib.Dec.{ltb, eqb}
+use lib.Dec.{eqb}
 use lib.Ieee.{Float}
-use lib.ListN.{length, getD}
+use lib.ListN.{getD}
 use borrow.Author.Tests.{le-ltb, eq-eqb, ne-eqb, eqb-false}
 use Rattle.slices.specs.Lists.{tabulate}
 use Rattle.rbitcoin_mempool.specs.Pairs.{pushBack}
 use Rattle.rbitcoin_mempool.specs.Outcome.{Verdict, done, refused, verdictOf}
-use Rattle.rbitcoin_mempool.specs.Windows.{Windows, heldIn, pushBackOf, orElse}
+use Rattle.rbitcoin_mempool.specs.Windows.{Windows, heldIn, pushBackOf}
 use Rattle.rbitcoin_mempool.proofs.Refusals.{refusing, zero-or-not}
 use Rattle.rbitcoin_net.specs.declared.fee_history.HistoricalFeeBlock.{HistoricalFeeBlock}
 use Rattle.rbitcoin_net.specs.declared.fee_history.FeeHistory.{FeeHistory}
-use Rattle.rbitcoin_net.specs.Map.{Entry, entry}
+use Rattle.rbitcoin_net.specs.Map.{entry}
 use Rattle.rbitcoin_net.specs.History.{History, setHurdles, setStale, hurdleOf, hold, noteHash, evict, consMaybe, hurdlesOf, pushMaybe, insertOf}
 use Rattle.rbitcoin_net.specs.Lent.{Rows, Hashes, Lent, lent, rowAt, heldRows, windowsOf, view, lentRefusal, Sound}
 use Rattle.rbitcoin_net.specs.Search.{placeOf, isAt, isHeld}
 use Rattle.rbitcoin_net.specs.Hashes.{Whole32}
 use Rattle.rbitcoin_net.specs.Cuts.{cutAt, dropFrom}
-use Rattle.rbitcoin_net.specs.Inserts.{Whole, whole, pushRate, insertRefusal, storeWith, insertIn, Inserts}
+use Rattle.rbitcoin_net.specs.Inserts.{Whole, whole, pushRate, insertRefusal, insertIn, Inserts}
 use Rattle.rbitcoin_net.proofs.Tables.{Parts, either}
 use Rattle.rbitcoin_net.proofs.Search.{place-parts}
 use Rattle.rbitcoin_net.proofs.Refusals.{both-zero, serves}
 use Rattle.rbitcoin_net.proofs.Full.{connect-full}
 use Rattle.rbitcoin_net.proofs.MapLaws.{cleared, connect-clears}
-use Rattle.rbitcoin_net.proofs.CutViews.{without, cut-view}
+use Rattle.rbitcoin_net.proofs.CutViews.{cut-view}
 use Rattle.rbitcoin_net.proofs.CutSound.{capacity-stays, cut-sound}
 use Rattle.rbitcoin_net.proofs.Stores.{withRow, Fitting, store-sound, store-means}
 use Rattle.rbitcoin_net.proofs.Pushed.{back-pushes, rate-same, rate-good, rate-held, sound-good, windows-room, hurdles-with, maybe-behind}

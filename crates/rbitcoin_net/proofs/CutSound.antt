@@ -1,8 +1,8 @@
 -- A cut leaves a sound state sound. Assumes nothing.
-use Prim.Native.Nat.{ℕ, zero, suc, _+_, _-_, _*_, _≤_, _<_}
+use Prim.Native.Nat.{ℕ, zero, suc, _+_, _-_}
 use mathlib.Core.Path.{_≡_, refl, sym, _∙_, ap, subst}
 use mathlib.Core.Bool.{Bool, true, false, cond, not, _&&_}
-use mathlib.Core.List.{List, [], _∷_, _++_, append-nil, append-assoc}
+use mathlib.Core.List.{List, [], _∷_, _++_, append-nil}
 use mathlib.Core.Option.{Option, none, some}
 use native.Mathlib.Omega.{arith}
 use lib.Dec.{eqb}
@@ -19,7 +19,7 @@ use Rattle.rbitcoin_mempool.proofs.Refusals.{valid-state, or-else-second, refus
 use borrow.Author.Tests.{eq-eqb, ne-eqb}
 use Rattle.rbitcoin_net.specs.declared.fee_history.HistoricalFeeBlock.{HistoricalFeeBlock}
 use Rattle.rbitcoin_net.specs.declared.fee_history.FeeHistory.{FeeHistory}
-use Rattle.rbitcoin_net.specs.Map.{Entry, Ascends, isSome}
+use Rattle.rbitcoin_net.specs.Map.{Entry, isSome}
 use Rattle.rbitcoin_net.specs.History.{History, truncateAbove, hurdleOf, forget, forgetAll, next, consMaybe, hurdlesOf}
 use Rattle.rbitcoin_net.specs.Lent.{Rows, rows, Hashes, hashes, Lent, lent, rowAt, heldRows, hashAt, hashesIn, windowsOf, view, stateRefusal, rowsRefusal, Sound}
 use Rattle.rbitcoin_net.specs.Search.{bisect, placeOf}

@@ -1,32 +1,31 @@
 -- What a cut means: the view after it is the Rust's `truncate_above` of the view before, and a sound state stays sound. Assumes nothing.
-use Prim.Native.Nat.{ℕ, zero, suc, _+_, _-_, _*_, _≤_, _<_}
+use Prim.Native.Nat.{ℕ, zero, suc, _+_, _-_}
 use mathlib.Core.Path.{_≡_, refl, sym, _∙_, ap}
 use mathlib.Core.Bool.{Bool, true, false, cond, not, _&&_}
-use mathlib.Core.List.{List, [], _∷_, _++_, append-nil, map}
-use mathlib.Core.Option.{Option, none, some}
+use mathlib.Core.List.{List, [], _∷_}
+use mathlib.Core.Option.{none, some}
 use native.Mathlib.Omega.{arith}
-use lib.Dec.{ltb, eqb}
+use lib.Dec.{eqb}
 use lib.Ieee.{Float}
-use lib.ListN.{length, getD, take, drop, length-append}
-use lib.Seq.{length-take-le, take-append-add}
+use lib.ListN.{getD}
 use Rattle.num.specs.Word.{saturatingSub}
 use Rattle.slices.specs.Lists.{tabulate}
 use Rattle.rbitcoin_mempool.specs.declared.answer.Rate.the-variants.{There, Missing}
 use Rattle.rbitcoin_mempool.specs.declared.fee_analog.history.AnalogHistory.{AnalogHistory}
 use Rattle.rbitcoin_mempool.specs.Pairs.{popBack}
 use Rattle.rbitcoin_mempool.specs.Rates.{given, rateAt}
-use Rattle.rbitcoin_mempool.specs.Windows.{Windows, windows, heldIn, popped, popBackOf, at}
+use Rattle.rbitcoin_mempool.specs.Windows.{windows, heldIn, popped, popBackOf, at}
 use Rattle.rbitcoin_mempool.specs.Windows.{stateRefusal as windowsRefusal}
 use Rattle.rbitcoin_mempool.proofs.Kept.{Good, pop-back-good}
 use Rattle.rbitcoin_mempool.proofs.Views.{pop-back-held}
 use Rattle.rbitcoin_net.specs.declared.fee_history.HistoricalFeeBlock.{HistoricalFeeBlock}
 use Rattle.rbitcoin_net.specs.declared.fee_history.FeeHistory.{FeeHistory}
 use Rattle.rbitcoin_net.specs.Map.{Entry, Ascends, below, onward, isSome}
-use Rattle.rbitcoin_net.specs.History.{History, setBlocks, setTotal, setHashes, setHurdles, setRates, hurdleOf, forget, forgetAll, next, truncateAbove, consMaybe, hurdlesOf}
+use Rattle.rbitcoin_net.specs.History.{History, setBlocks, setTotal, setHashes, setHurdles, setRates, forget, forgetAll, next, truncateAbove}
 use Rattle.rbitcoin_net.specs.Lent.{Rows, Hashes, Lent, lent, blockAt, rowAt, heldRows, hashAt, hashesIn, keptRates, windowsOf, view}
-use Rattle.rbitcoin_net.specs.Search.{bisect, placeOf}
+use Rattle.rbitcoin_net.specs.Search.{placeOf}
 use Rattle.rbitcoin_net.specs.Hashes.{kept, hashPlace}
-use Rattle.rbitcoin_net.specs.Cuts.{withRows, withSums, withHashes, unkept, forgetRow, forgetRows, cutAt, dropFrom}
+use Rattle.rbitcoin_net.specs.Cuts.{withSums, forgetRow, forgetRows, cutAt, dropFrom}
 use Rattle.rbitcoin_net.proofs.Tables.{Parts, ascends-rising, below-table, onward-table}
 use Rattle.rbitcoin_net.proofs.Search.{place-parts, bisect-parts}
 use Rattle.rbitcoin_net.proofs.Search.{at as element}

@@ -1,5 +1,5 @@
 -- An eviction leaves a sound state sound. Assumes nothing.
-use Prim.Native.Nat.{ℕ, zero, suc, _+_, _-_, _≤_, _<_}
+use Prim.Native.Nat.{ℕ, zero, suc, _+_, _-_}
 use mathlib.Core.Path.{_≡_, refl, sym, _∙_, ap, subst}
 use mathlib.Core.Bool.{Bool, true, false, cond, not, _&&_}
 use mathlib.Core.List.{List, [], _∷_}
@@ -7,22 +7,20 @@ use mathlib.Core.Option.{Option, none, some}
 use native.Mathlib.Omega.{arith}
 use lib.Dec.{ltb, eqb}
 use lib.Ieee.{Float}
-use lib.ListN.{getD, drop}
+use lib.ListN.{getD}
 use Rattle.slices.specs.Lists.{tabulate}
 use Rattle.rbitcoin_mempool.specs.Pairs.{popFront}
 use Rattle.rbitcoin_mempool.specs.Windows.{heldIn, popFrontOf}
-use Rattle.rbitcoin_mempool.proofs.Kept.{Good, good-stored, stored-good}
-use Rattle.rbitcoin_net.specs.declared.fee_history.HistoricalFeeBlock.{HistoricalFeeBlock}
+use Rattle.rbitcoin_mempool.proofs.Kept.{good-stored, stored-good}
 use Rattle.rbitcoin_net.specs.declared.fee_history.FeeHistory.{FeeHistory}
-use Rattle.rbitcoin_net.specs.Map.{Entry, Ascends, isSome}
+use Rattle.rbitcoin_net.specs.Map.{Ascends, isSome}
 use Rattle.rbitcoin_net.specs.History.{History, hurdleOf, forget, evictOne, consMaybe, hurdlesOf}
-use Rattle.rbitcoin_net.specs.Lent.{Rows, Hashes, Lent, lent, rowAt, heldRows, hashesIn, windowsOf, view, stateRefusal, lentRefusal, Sound}
-use Rattle.rbitcoin_net.specs.Hashes.{kept}
+use Rattle.rbitcoin_net.specs.Lent.{Rows, Hashes, Lent, lent, rowAt, heldRows, windowsOf, view, stateRefusal, lentRefusal, Sound}
 use Rattle.rbitcoin_net.specs.Cuts.{withSums, unkept, forgetRow}
 use Rattle.rbitcoin_net.specs.Evictions.{Held, held, evictRow, evictOldest, evictRows, evictIn}
-use Rattle.rbitcoin_net.proofs.Refusals.{Serves, serves, serves-lent, windows-valid}
+use Rattle.rbitcoin_net.proofs.Refusals.{Serves, serves, serves-lent}
 use Rattle.rbitcoin_net.proofs.CutViews.{pop-capacity}
-use Rattle.rbitcoin_net.proofs.EvictViews.{Fit, one-view, one-good, one-fit, next-start, next-count}
+use Rattle.rbitcoin_net.proofs.EvictViews.{Fit, one-view, one-fit, next-start, next-count}
 
 -- a sound state is sound with another total, and without kept rates
 module _ (s : FeeHistory) (m : Lent) (x : Sound s m) where

@@ -1,9 +1,8 @@
 -- What an eviction means: the view after it is the Rust's `evict` of the view before. Assumes nothing.
-use Prim.Native.Nat.{ℕ, zero, suc, _+_, _-_, _≤_, _<_}
-use mathlib.Core.Path.{_≡_, refl, sym, _∙_, ap}
+use Prim.Native.Nat.{ℕ, zero, suc, _+_, _-_}
+use mathlib.Core.Path.{_≡_, refl, _∙_}
 use mathlib.Core.Bool.{Bool, true, false, cond, not, _&&_}
 use mathlib.Core.List.{List, [], _∷_}
-use mathlib.Core.Option.{none}
 use native.Mathlib.Numerals.{add-one}
 use native.Mathlib.Omega.{arith}
 use lib.Dec.{ltb, eqb}
@@ -17,9 +16,9 @@ use Rattle.rbitcoin_mempool.proofs.Views.{pop-front-held}
 use Rattle.rbitcoin_net.specs.declared.fee_history.HistoricalFeeBlock.{HistoricalFeeBlock}
 use Rattle.rbitcoin_net.specs.declared.fee_history.FeeHistory.{FeeHistory}
 use Rattle.rbitcoin_net.specs.Map.{Entry, Ascends}
-use Rattle.rbitcoin_net.specs.History.{History, setBlocks, setTotal, setHashes, setRates, forget, evictOne, evictBlocks, evict}
-use Rattle.rbitcoin_net.specs.Lent.{Rows, Hashes, Lent, lent, rowAt, blockAt, heldRows, hashesIn, keptRates, windowsOf, view}
-use Rattle.rbitcoin_net.specs.Hashes.{Kept, kept, Room, removeHash}
+use Rattle.rbitcoin_net.specs.History.{setBlocks, setTotal, setHashes, forget, evictOne, evictBlocks, evict}
+use Rattle.rbitcoin_net.specs.Lent.{Rows, Hashes, Lent, lent, rowAt, heldRows, hashesIn, keptRates, windowsOf, view}
+use Rattle.rbitcoin_net.specs.Hashes.{kept, Room, removeHash}
 use Rattle.rbitcoin_net.specs.Cuts.{withSums, unkept, forgetRow}
 use Rattle.rbitcoin_net.specs.Evictions.{Held, held, evictRow, evictOldest, evictRows, evictIn}
 use Rattle.rbitcoin_net.proofs.CutViews.{pop-tracked, pop-targets, forget-view-by}

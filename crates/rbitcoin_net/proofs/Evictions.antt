@@ -2,18 +2,16 @@
 use Prim.Native.Nat.{ℕ, zero, suc, _+_, _-_, _*_, _≤_, _<_}
 use mathlib.Core.Path.{_≡_, refl, sym, _∙_, ap, subst}
 use mathlib.Core.Bool.{Bool, true, false, cond}
-use mathlib.Core.List.{List}
 use native.Mathlib.Omega.{arith}
-use lib.Dec.{ltb}
-use lib.ListN.{length, getD}
+use lib.ListN.{getD}
 use borrow.Author.Tests.{lt-ltb, le-ltb}
 use Rattle.slices.proofs.Runs.{length-moved}
 use Rattle.rbitcoin_mempool.specs.Windows.{popFrontOf}
 use Rattle.rbitcoin_net.specs.Lent.{Rows, Hashes, hashes, blockAt}
 use Rattle.rbitcoin_net.specs.Search.{isAt}
 use Rattle.rbitcoin_net.specs.Hashes.{Kept, kept, Room, movedHashes, hashPlace, removeAt, removeHash}
-use Rattle.rbitcoin_net.specs.Cuts.{withRows, withSums, withHashes, unkept, forgetRow}
-use Rattle.rbitcoin_net.specs.Evictions.{Held, held, evictRow, evictBlock, evictOldest, evictRows, evictIn}
+use Rattle.rbitcoin_net.specs.Cuts.{withRows, withSums, withHashes, forgetRow}
+use Rattle.rbitcoin_net.specs.Evictions.{Held, held, evictRow, evictBlock, evictOldest, evictRows}
 use Rattle.rbitcoin_net.specs.declared.fee_history.HistoricalFeeBlock.{HistoricalFeeBlock}
 use Rattle.rbitcoin_net.specs.declared.fee_history.FeeHistory.{FeeHistory}
 use Rattle.rbitcoin_net.proofs.Search.{is-at-true}

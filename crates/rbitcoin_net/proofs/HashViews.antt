@@ -1,19 +1,19 @@
 -- The kept hashes as the Rust's map: what a dropped hash and a new one do to it. Assumes nothing.
-use Prim.Native.Nat.{ℕ, zero, suc, _+_, _-_, _*_, _≤_, _<_}
+use Prim.Native.Nat.{ℕ, suc, _+_, _-_, _*_, _≤_, _<_}
 use mathlib.Core.Path.{_≡_, refl, sym, _∙_, ap}
 use mathlib.Core.Bool.{Bool, true, false, cond}
-use mathlib.Core.List.{List, [], _∷_, _++_}
+use mathlib.Core.List.{List, _∷_, _++_}
 use native.Mathlib.Omega.{arith}
 use lib.Dec.{ltb, eqb}
 use borrow.Author.Tests.{ltb-true, ltb-false, eqb-true, eqb-false}
-use lib.ListN.{length, getD, set, take, drop, length-append, length-set, length-drop, List·getD-append}
+use lib.ListN.{length, getD, take, drop, length-append, length-set, length-drop, List·getD-append}
 use lib.Seq.{getD-set-same, getD-set-other, getD-take, getD-drop, getD-append-add, length-take-le}
-use Rattle.slices.specs.Lists.{tabulate, moved}
+use Rattle.slices.specs.Lists.{tabulate}
 use Rattle.slices.proofs.Lists.{tabulate-is, tabulate-length}
 use Rattle.slices.proofs.Runs.{length-moved, moved-below, moved-in, moved-above}
 use Rattle.rbitcoin_net.specs.Map.{Entry, entry, Ascends, remove, insert}
 use Rattle.rbitcoin_net.specs.History.{newest}
-use Rattle.rbitcoin_net.specs.Lent.{Hashes, hashes, hashAt, hashesIn}
+use Rattle.rbitcoin_net.specs.Lent.{Hashes, hashAt, hashesIn}
 use Rattle.rbitcoin_net.specs.Search.{isAt}
 use Rattle.rbitcoin_net.specs.Hashes.{Kept, kept, Room, movedHashes, putHash, hashPlace, removeAt, removeHash, noteAt}
 use Rattle.rbitcoin_net.proofs.Tables.{either, Parts, table-add, table-ext, table-split, ascends-rising, ascends-at, ascends-of, remove-found, remove-absent, insert-found, insert-absent}

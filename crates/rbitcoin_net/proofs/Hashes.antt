@@ -1,15 +1,15 @@
 -- The kept hashes: what the code's steps are by the definitions. Assumes nothing.
-use Prim.Native.Nat.{ℕ, zero, suc, _+_, _-_, _*_, _≤_, _<_}
-use mathlib.Core.Path.{_≡_, refl, sym, _∙_, ap}
+use Prim.Native.Nat.{ℕ, _+_, _-_, _≤_, _<_}
+use mathlib.Core.Path.{_≡_, sym, _∙_, ap}
 use mathlib.Core.Bool.{Bool, true, false, cond}
-use mathlib.Core.List.{List, [], _∷_, _++_, append-nil, append-assoc}
+use mathlib.Core.List.{List, _++_, append-nil, append-assoc}
 use native.Mathlib.Omega.{arith}
-use lib.ListN.{length, take, drop, length-take, length-drop}
+use lib.ListN.{length, take, drop, length-drop}
 use lib.Seq.{drop-drop, drop-length, length-take-le}
 use borrow.Author.Tests.{le-leb, lt-ltb, le-ltb, eq-eqb, ne-eqb}
-use mathlib.Core.Option.{Option, none, some}
+use mathlib.Core.Option.{none, some}
 use Rattle.slices.specs.Lists.{copyFront}
-use Rattle.rbitcoin_net.specs.Lent.{Hashes, hashes}
+use Rattle.rbitcoin_net.specs.Lent.{Hashes}
 use Rattle.rbitcoin_net.specs.Search.{bisect, isAt}
 use Rattle.rbitcoin_net.specs.Hashes.{Kept, kept, hashOf, movedHashes, putHash, hashPlace, removeAt, removeHash, noteAt, noteHashIn}
 use Rattle.rbitcoin_net.specs.declared.fee_history.BlockHash.{BlockHash}

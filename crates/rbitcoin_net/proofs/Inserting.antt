@@ -1,5 +1,5 @@
 -- `insert` and `insert_if_absent`: the code's steps by the definitions. Assumes nothing.
-use Prim.Native.Nat.{ℕ, zero, suc, _+_, _-_, _/_, _≤_, _<_}
+use Prim.Native.Nat.{ℕ, zero, suc, _+_, _-_, _≤_}
 use mathlib.Core.Path.{_≡_, refl, sym, _∙_, ap, subst}
 use mathlib.Core.Bool.{Bool, true, false, cond}
 use mathlib.Core.List.{List, []}
@@ -7,7 +7,7 @@ use mathlib.Core.Option.{Option, none, some}
 use native.Mathlib.Omega.{arith}
 use lib.Dec.{ltb}
 use lib.ListN.{length, getD}
-use borrow.Author.Tests.{ltb-true, ltb-false}
+use borrow.Author.Tests.{ltb-true}
 use Rattle.rbitcoin_mempool.specs.declared.answer.Rate.{Rate}
 use Rattle.rbitcoin_mempool.specs.declared.answer.Rate.the-variants.{There, Missing}
 use Rattle.rbitcoin_mempool.specs.Rates.{given, markOf, numberOf}
@@ -18,7 +18,7 @@ use Rattle.rbitcoin_net.specs.declared.fee_history.BlockHash.{BlockHash}
 use Rattle.rbitcoin_net.specs.History.{hurdleOf}
 use Rattle.rbitcoin_net.specs.Lent.{Rows, rows, Hashes, hashes}
 use Rattle.rbitcoin_net.specs.Search.{bisect}
-use Rattle.rbitcoin_net.specs.Hashes.{Kept, kept, Room, Whole32, hashOf, hashPlace, noteAt, noteHashIn}
+use Rattle.rbitcoin_net.specs.Hashes.{Kept, kept, Room, Whole32, hashOf, hashPlace, noteHashIn}
 use Rattle.rbitcoin_net.specs.Cuts.{withHashes, unkept}
 use Rattle.rbitcoin_net.specs.Rooms.{startWith, Stored, stored, holdAt, Roomy}
 use Rattle.rbitcoin_net.specs.Evictions.{Held, held, evictOldest, evictRows, evictIn}

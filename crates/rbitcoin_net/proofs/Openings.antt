@@ -1,21 +1,20 @@
 -- `new` leaves the Rust's new history. Assumes nothing.
-use Prim.Native.Nat.{ℕ, zero, suc, _+_, _-_, _≤_, _<_}
+use Prim.Native.Nat.{ℕ, zero, suc, _-_, _≤_}
 use mathlib.Core.Path.{_≡_, refl, sym, _∙_, ap, subst}
-use mathlib.Core.Bool.{Bool, true, false, cond}
-use mathlib.Core.List.{List, [], _∷_, _++_}
+use mathlib.Core.Bool.{false, cond}
+use mathlib.Core.List.{List, []}
 use mathlib.Core.Option.{none}
 use native.Mathlib.Omega.{arith}
-use lib.Dec.{eqb}
 use lib.ListN.{length, getD}
 use borrow.Author.Tests.{eq-eqb, ne-eqb}
 use Rattle.slices.specs.Lists.{tabulate}
 use Rattle.slices.proofs.Lists.{tabulate-at, tabulate-is, tabulate-same}
 use Rattle.rbitcoin_mempool.specs.declared.fee_analog.history.AnalogHistory.{AnalogHistory}
 use Rattle.rbitcoin_mempool.specs.Outcome.{Verdict, done, refused, verdictOf}
-use Rattle.rbitcoin_mempool.specs.Windows.{orElse, held, windows, Valid}
+use Rattle.rbitcoin_mempool.specs.Windows.{held, windows, Valid}
 use Rattle.rbitcoin_mempool.specs.Windows.{fresh as freshWindows, unopened as unopenedWindows, opened as openedWindows, openRefusal as windowsOpenRefusal, stateRefusal as windowsRefusal, sizeRefusal as windowsSizeRefusal, lentRefusal as windowsLentRefusal}
 use Rattle.rbitcoin_mempool.proofs.Kept.{empty-good, good-stored}
-use Rattle.rbitcoin_mempool.proofs.Refusals.{refusing, or-else-second, first-stands, then-second}
+use Rattle.rbitcoin_mempool.proofs.Refusals.{refusing, first-stands, then-second}
 use Rattle.rbitcoin_mempool.proofs.Refusals.{lent as windows-lent}
 use Rattle.rbitcoin_net.specs.History.{new, hurdlesOf}
 use Rattle.rbitcoin_net.specs.Lent.{Lent, view, heldRows, hashesIn, keptRates, windowsOf, stateRefusal, Sound}

@@ -1,6 +1,6 @@
 -- `insert_if_absent`: the code's branches and steps by the definitions. Assumes nothing.
-use Prim.Native.Nat.{ℕ, zero, suc, _+_, _-_, _≤_, _<_}
-use mathlib.Core.Path.{_≡_, refl, sym, _∙_, ap}
+use Prim.Native.Nat.{ℕ, _+_, _-_, _<_}
+use mathlib.Core.Path.{_≡_, sym, _∙_, ap}
 use mathlib.Core.Bool.{Bool, true, false, cond}
 use mathlib.Core.List.{List}
 use mathlib.Core.Option.{Option}
@@ -13,7 +13,7 @@ use Rattle.rbitcoin_mempool.specs.declared.answer.Rate.{Rate}
 use Rattle.rbitcoin_mempool.specs.declared.answer.Rate.the-variants.{There, Missing}
 use Rattle.rbitcoin_mempool.specs.declared.fee_analog.history.AnalogHistory.{AnalogHistory}
 use Rattle.rbitcoin_mempool.specs.Rates.{given}
-use Rattle.rbitcoin_mempool.specs.Windows.{Windows, windows, orElse, pushBackOf, pushFrontOf}
+use Rattle.rbitcoin_mempool.specs.Windows.{Windows, windows, pushBackOf, pushFrontOf}
 use Rattle.rbitcoin_mempool.proofs.Refusals.{first-stands, then-second}
 use Rattle.rbitcoin_net.specs.declared.fee_history.HistoricalFeeBlock.{HistoricalFeeBlock}
 use Rattle.rbitcoin_net.specs.declared.fee_history.FeeHistory.{FeeHistory}

@@ -3,12 +3,11 @@ use Prim.Native.Nat.{ℕ, zero, suc, _+_, _-_, _≤_, _<_}
 use mathlib.Core.Path.{_≡_, refl, sym, _∙_, ap, subst}
 use mathlib.Core.Logic.{⊎-elim}
 use mathlib.Core.Bool.{Bool, true, false, cond}
-use mathlib.Core.List.{List, [], _∷_, _++_}
+use mathlib.Core.List.{List, _++_}
 use mathlib.Core.Option.{Option, none, some}
 use native.Mathlib.Omega.{arith}
 use lib.Dec.{ltb, eqb}
 use lib.Ieee.{Float}
-use lib.ListN.{length}
 use borrow.Author.Tests.{lt-ltb, le-ltb, eq-eqb, ne-eqb, eqb-true, eqb-false}
 use Rattle.slices.specs.Lists.{tabulate}
 use Rattle.rbitcoin_mempool.specs.Pairs.{pushBack, pushFront}
@@ -18,7 +17,7 @@ use Rattle.rbitcoin_mempool.proofs.Kept.{Good}
 use Rattle.rbitcoin_mempool.proofs.Refusals.{refusing, zero-or-not}
 use Rattle.rbitcoin_net.specs.declared.fee_history.HistoricalFeeBlock.{HistoricalFeeBlock}
 use Rattle.rbitcoin_net.specs.declared.fee_history.FeeHistory.{FeeHistory}
-use Rattle.rbitcoin_net.specs.Map.{Entry, entry, Ascends, isSome, firstKey, lastKey}
+use Rattle.rbitcoin_net.specs.Map.{Entry, Ascends, isSome, firstKey, lastKey}
 use Rattle.rbitcoin_net.specs.History.{History, setHurdles, setStale, setRates, hurdleOf, hold, noteHash, evict, consMaybe, hurdlesOf, pushMaybe, preloadHurdle, preloadRate, insertIfAbsentOf}
 use Rattle.rbitcoin_net.specs.Lent.{Rows, Hashes, Lent, lent, rowAt, heldRows, keptRates, windowsOf, view, lentRefusal, Sound}
 use Rattle.rbitcoin_net.specs.Search.{placeOf, isAt, isHeld}

@@ -1,17 +1,16 @@
 -- A rate pushed onto the windows of a sound state: it is accepted, and the windows fit the rows with the new one. Assumes nothing.
-use Prim.Native.Nat.{ℕ, zero, suc, _+_, _-_, _/_, _≤_, _<_}
-use mathlib.Core.Path.{_≡_, refl, sym, _∙_, ap}
+use Prim.Native.Nat.{ℕ, _+_, _-_, _/_, _≤_, _<_}
+use mathlib.Core.Path.{_≡_, refl, sym, ap}
 use mathlib.Core.Bool.{Bool, true, false, cond}
 use mathlib.Core.List.{List, [], _∷_, _++_, append-nil}
 use mathlib.Core.Option.{Option, none, some}
 use native.Mathlib.Omega.{arith}
 use lib.Dec.{eqb}
 use lib.ListN.{length}
-use Rattle.slices.specs.Lists.{tabulate}
 use Rattle.slices.proofs.Lists.{tabulate-length}
 use Rattle.rbitcoin_mempool.specs.declared.fee_analog.history.AnalogHistory.{AnalogHistory}
 use Rattle.rbitcoin_mempool.specs.Pairs.{pushBack, pushFront}
-use Rattle.rbitcoin_mempool.specs.Windows.{Windows, held, heldIn, freeOf, movedTo, roomBack, roomFront, storeBack, storeFront, withPairs, pushBackOf, pushFrontOf, pushRefusalOf}
+use Rattle.rbitcoin_mempool.specs.Windows.{Windows, heldIn, freeOf, movedTo, roomBack, roomFront, storeBack, storeFront, withPairs, pushBackOf, pushFrontOf, pushRefusalOf}
 use Rattle.rbitcoin_mempool.proofs.Kept.{Good, push-back-good, push-front-good, stored-good}
 use Rattle.rbitcoin_mempool.proofs.Parts.{length-held}
 use Rattle.rbitcoin_mempool.proofs.Refusals.{accepts}

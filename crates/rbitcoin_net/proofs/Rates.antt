@@ -12,17 +12,17 @@ use borrow.Author.Tests.{lt-ltb, eq-eqb, ne-eqb}
 use Rattle.slices.specs.Lists.{tabulate}
 use Rattle.slices.proofs.Lists.{tabulate-at, tabulate-length, tabulate-same, map-table}
 use Rattle.rbitcoin_mempool.specs.declared.fee_analog.history.AnalogHistory.{AnalogHistory}
-use Rattle.rbitcoin_mempool.specs.Outcome.{Verdict, verdictOf, done, refused}
+use Rattle.rbitcoin_mempool.specs.Outcome.{verdictOf, done, refused}
 use Rattle.rbitcoin_mempool.specs.Rates.{marked, rateAt, numberOf, markOf, numbersOf, marksOf}
-use Rattle.rbitcoin_mempool.specs.Windows.{Windows, windows, held, heldIn, targetAt, pushAll, pushBackOf, emptied}
+use Rattle.rbitcoin_mempool.specs.Windows.{Windows, windows, heldIn, targetAt, pushAll, pushBackOf, emptied}
 use Rattle.rbitcoin_mempool.proofs.Kept.{Good, good-stored}
 use Rattle.rbitcoin_mempool.proofs.Reach.{tracked-rate}
 use Rattle.rbitcoin_mempool.proofs.Rebuilds.{rebuild-done, rebuild-good, rebuilt-held}
 use Rattle.rbitcoin_mempool.proofs.Refusals.{rebuilds, refusing}
 use Rattle.rbitcoin_net.specs.Map.{Entry}
-use Rattle.rbitcoin_net.specs.History.{History, found, confidenceOf, rateFor, hurdlesOf, rebuilt, answered, keep, ratesOf, afterRates, setRates, setStale, setHurdles}
-use Rattle.rbitcoin_net.specs.Lent.{Rows, Hashes, Lent, lent, rowAt, heldRows, hashesIn, heldHashes, keptRates, windowsOf, view, Sound}
-use Rattle.rbitcoin_net.specs.Rates.{Rated, rated, windowsIn, lentTo, refreshed, refreshedIn, rateFrom, slots, keeping, answeredFrom, ratesIn, answersIn, Outputs, refusalFor, ScratchLeft, AnswersRates}
+use Rattle.rbitcoin_net.specs.History.{found, confidenceOf, rateFor, hurdlesOf, rebuilt, answered, keep, ratesOf, afterRates, setRates, setStale, setHurdles}
+use Rattle.rbitcoin_net.specs.Lent.{Rows, Hashes, lent, rowAt, heldRows, heldHashes, keptRates, view, Sound}
+use Rattle.rbitcoin_net.specs.Rates.{Rated, rated, windowsIn, lentTo, refreshed, refreshedIn, rateFrom, slots, keeping, answeredFrom, ratesIn, answersIn, Outputs, refusalFor, AnswersRates}
 use Rattle.rbitcoin_net.specs.Readers.{wrote}
 use Rattle.rbitcoin_net.specs.declared.fee_history.HistoricalFeeBlock.{HistoricalFeeBlock}
 use Rattle.rbitcoin_net.specs.declared.fee_history.FeeHistory.{FeeHistory}

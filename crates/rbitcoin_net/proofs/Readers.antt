@@ -1,8 +1,8 @@
 -- What `entries` and `recent_hashes` write is what is held. Assumes nothing.
-use Prim.Native.Nat.{ℕ, zero, suc, _+_, _-_, _*_, _≤_, _<_}
+use Prim.Native.Nat.{ℕ, zero, suc, _+_, _-_, _*_, _≤_}
 use mathlib.Core.Path.{_≡_, refl, sym, _∙_, ap}
 use mathlib.Core.Bool.{Bool, true, false, cond}
-use mathlib.Core.List.{List, [], _∷_, _++_, map}
+use mathlib.Core.List.{List, _++_, map}
 use native.Mathlib.Omega.{arith}
 use lib.Dec.{eqb}
 use lib.ListN.{length, getD, take, drop}
@@ -10,12 +10,11 @@ use borrow.Author.Tests.{eq-eqb, ne-eqb, le-leb}
 use Rattle.slices.specs.Lists.{tabulate, copyFront}
 use Rattle.slices.proofs.Lists.{tabulate-length, tabulate-same, map-table, part-table}
 use Rattle.rbitcoin_mempool.specs.declared.answer.Rate.the-variants.{There, Missing}
-use Rattle.rbitcoin_mempool.specs.Counted.{Counted, count, refused, countedOf}
+use Rattle.rbitcoin_mempool.specs.Counted.{count, refused}
 use Rattle.rbitcoin_mempool.specs.Rates.{markOf, numberOf, given}
 use Rattle.rbitcoin_mempool.proofs.Scans.{count-refused, count-given}
 use Rattle.rbitcoin_net.specs.declared.fee_history.FeeHistory.{FeeHistory}
-use Rattle.rbitcoin_net.specs.Map.{Entry}
-use Rattle.rbitcoin_net.specs.Lent.{Rows, rows, Hashes, hashes, rateOf, rowAt, heldRows, hashAt, hashesIn, heldHashes}
+use Rattle.rbitcoin_net.specs.Lent.{Rows, Hashes, hashes, rowAt, heldRows, hashAt, hashesIn, heldHashes}
 use Rattle.rbitcoin_net.specs.Readers.{wrote, keyOf, markIn, numberIn, bytesIn, entriesRefusalOf, Entries, bytesOf, recentRefusalOf, RecentHashes}
 use Rattle.rbitcoin_net.proofs.Tables.{table-add}
 

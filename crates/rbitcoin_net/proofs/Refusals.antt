@@ -1,18 +1,18 @@
 -- What the refusals leave, by the tests that they are made of. Assumes nothing.
-use Prim.Native.Nat.{ℕ, zero, suc, _+_, _*_, _≤_, _<_}
+use Prim.Native.Nat.{ℕ, _+_, _*_, _≤_, _<_}
 use mathlib.Core.Path.{_≡_, refl, sym, _∙_, ap}
 use mathlib.Core.Logic.{⊎-elim}
 use mathlib.Core.Bool.{Bool, true, false, cond}
 use native.Mathlib.Omega.{arith}
 use lib.Dec.{ltb, eqb}
 use lib.ListN.{length}
-use borrow.Author.Tests.{lt-ltb, le-ltb, ltb-false, eq-eqb, ne-eqb, eqb-true}
+use borrow.Author.Tests.{lt-ltb, le-ltb, ltb-false, eq-eqb, eqb-true}
 use Rattle.rbitcoin_mempool.specs.declared.fee_analog.history.AnalogHistory.{AnalogHistory}
 use Rattle.rbitcoin_mempool.specs.Windows.{orElse, Valid}
 use Rattle.rbitcoin_mempool.specs.Windows.{stateRefusal as windowsRefusal, sizeRefusal as windowsSizeRefusal, lentRefusal as windowsLentRefusal}
 use Rattle.rbitcoin_mempool.proofs.Refusals.{then-second, or-else-first, or-else-second, zero-or-not, valid-state}
 use Rattle.rbitcoin_mempool.proofs.Refusals.{sound as windows-sound, lent as windows-lent}
-use Rattle.rbitcoin_net.specs.Lent.{Rows, Hashes, Lent, stateRefusal, rowsRefusal, hashesRefusal, rowsRefusalOf, hashesRefusalOf, lentRefusal}
+use Rattle.rbitcoin_net.specs.Lent.{Lent, stateRefusal, rowsRefusal, hashesRefusal, lentRefusal}
 use Rattle.rbitcoin_net.specs.Cuts.{truncateRefusal}
 use Rattle.rbitcoin_net.specs.Rates.{ratesRefusal}
 use Rattle.rbitcoin_net.specs.Readers.{entriesRefusal, recentRefusal}

@@ -1,17 +1,15 @@
 -- Over any run of calls from an opening the state stays sound, and while the true sum fits, the kept byte total is that sum. Assumes nothing.
 use Prim.Native.Nat.{ℕ, _^_, _<_}
-use mathlib.Core.Path.{_≡_, refl, sym, _∙_, ap, subst}
+use mathlib.Core.Path.{_≡_, refl, sym, subst}
 use mathlib.Core.Bool.{Bool, true, false, cond}
 use mathlib.Core.List.{List, [], _∷_}
-use mathlib.Core.Option.{Option, none}
-use native.Mathlib.Omega.{arith}
+use mathlib.Core.Option.{Option}
 use lib.Dec.{eqb}
 use borrow.Author.Tests.{eqb-true}
 use Rattle.rbitcoin_mempool.specs.Windows.{fresh as freshWindows}
 use Rattle.rbitcoin_net.specs.declared.fee_history.HistoricalFeeBlock.{HistoricalFeeBlock}
 use Rattle.rbitcoin_net.specs.declared.fee_history.FeeHistory.{FeeHistory}
 use Rattle.rbitcoin_net.specs.Map.{below, containsKey, insert}
-use Rattle.rbitcoin_net.specs.History.{History, new, truncateAbove, insertOf, insertIfAbsentOf}
 use Rattle.rbitcoin_net.specs.Lent.{Lent, heldRows, view, Sound}
 use Rattle.rbitcoin_net.specs.Hashes.{Whole32}
 use Rattle.rbitcoin_net.specs.Cuts.{truncateIn, truncateRefusalOf}

@@ -7,12 +7,12 @@ use mathlib.Core.Path.{_≡_, refl, sym, _∙_, ap}
 use native.Mathlib.Omega.{arith}
 use lib.Dec.{ltb, eqb}
 use lib.ListN.{getD}
-use borrow.Author.Tests.{lt-ltb, le-ltb, ltb-true, ltb-false, eq-eqb, ne-eqb, eqb-true, eqb-false}
+use borrow.Author.Tests.{lt-ltb, le-ltb, ltb-true, ltb-false, eq-eqb, eqb-true}
 use Rattle.slices.specs.Lists.{tabulate}
 use Rattle.rbitcoin_net.specs.declared.fee_history.HistoricalFeeBlock.{HistoricalFeeBlock}
 use Rattle.rbitcoin_net.specs.declared.fee_history.FeeHistory.{FeeHistory}
 use Rattle.rbitcoin_net.specs.Map.{Ascends, get, isSome, containsKey}
-use Rattle.rbitcoin_net.specs.Lent.{Rows, rows, rowAt, blockAt, heldRows, rowsRefusalOf}
+use Rattle.rbitcoin_net.specs.Lent.{Rows, rowAt, blockAt, heldRows, rowsRefusalOf}
 use Rattle.rbitcoin_net.specs.Search.{bisect, placeOf, isAt, isHeld, Looked, block, nothing, refused, lookedOf, lookedAfter, lookUpIn, getIn, Gets}
 use Rattle.rbitcoin_net.proofs.Tables.{either, not-both, Parts, Rising, ascends-at, ascends-rising, get-none, get-found}
 

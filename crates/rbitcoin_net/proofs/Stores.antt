@@ -1,8 +1,8 @@
 -- A row held with its hurdle, and a hash noted: what each does to the view, and that a sound state stays sound. Assumes nothing.
-use Prim.Native.Nat.{ℕ, zero, suc, _+_, _-_, _≤_, _<_}
+use Prim.Native.Nat.{ℕ, _+_, _-_, _<_}
 use mathlib.Core.Path.{_≡_, refl, sym, _∙_, ap, subst}
-use mathlib.Core.Bool.{Bool, true, false, cond}
-use mathlib.Core.List.{List, [], _∷_, _++_}
+use mathlib.Core.Bool.{Bool, false, cond}
+use mathlib.Core.List.{List, _∷_, _++_}
 use mathlib.Core.Option.{Option, none, some}
 use native.Mathlib.Omega.{arith}
 use lib.Ieee.{Float}
@@ -16,13 +16,12 @@ use Rattle.rbitcoin_net.specs.declared.fee_history.HistoricalFeeBlock.{H
 use Rattle.rbitcoin_net.specs.declared.fee_history.FeeHistory.{FeeHistory}
 use Rattle.rbitcoin_net.specs.Map.{Entry, entry, Ascends, insert}
 use Rattle.rbitcoin_net.specs.History.{History, setHashes, setHurdles, setStale, hurdleOf, hold, noteHash, hurdlesOf, evict, newest}
-use Rattle.rbitcoin_net.specs.Lent.{Rows, Hashes, Lent, lent, rowAt, heldRows, heldHashes, hashesIn, keptRates, windowsOf, view, Sound}
+use Rattle.rbitcoin_net.specs.Lent.{Rows, Hashes, Lent, lent, rowAt, heldRows, heldHashes, hashesIn, keptRates, view, Sound}
 use Rattle.rbitcoin_net.specs.Search.{placeOf, isAt, isHeld}
-use Rattle.rbitcoin_net.specs.Hashes.{Kept, kept, Room, Whole32, hashPlace, noteAt, noteHashIn}
+use Rattle.rbitcoin_net.specs.Hashes.{Kept, kept, Room, Whole32, hashPlace, noteHashIn}
 use Rattle.rbitcoin_net.specs.Cuts.{withHashes}
 use Rattle.rbitcoin_net.specs.Rooms.{startWith, Stored, stored, holdAt, Roomy}
-use Rattle.rbitcoin_net.specs.Evictions.{held, evictIn}
-use Rattle.rbitcoin_net.specs.Inserts.{Whole, whole, Filed, filed, withWindows, storeIn, storeWith}
+use Rattle.rbitcoin_net.specs.Inserts.{Whole, withWindows, storeIn, storeWith}
 use Rattle.rbitcoin_net.proofs.Tables.{Parts}
 use Rattle.rbitcoin_net.proofs.Search.{place-parts}
 use Rattle.rbitcoin_net.proofs.Refusals.{Serves, serves, serves-lent}

@@ -1,17 +1,16 @@
 -- Each of the Rust's functions keeps the byte total the true sum, where the sum before its eviction fits a u64. Assumes nothing.
-use Prim.Native.Nat.{ℕ, zero, suc, _+_, _-_, _^_, _≤_, _<_}
+use Prim.Native.Nat.{ℕ, _+_, _-_, _^_, _<_}
 use mathlib.Core.Path.{_≡_, refl, sym, _∙_, ap, subst}
 use mathlib.Core.Bool.{Bool, true, false, cond}
 use mathlib.Core.List.{List, [], _∷_, _++_}
 use mathlib.Core.Option.{Option, none, some}
 use native.Mathlib.Omega.{arith}
-use lib.Dec.{leb, ltb, eqb}
+use lib.Dec.{ltb}
 use borrow.Author.Tests.{lt-ltb, le-ltb, le-leb, lt-leb, eq-eqb, ne-eqb}
-use Rattle.num.specs.Word.{saturatingAdd}
 use Rattle.rbitcoin_mempool.specs.Pairs.{popBack, pushBack, pushFront}
 use Rattle.rbitcoin_net.specs.declared.fee_history.HistoricalFeeBlock.{HistoricalFeeBlock}
 use Rattle.rbitcoin_net.specs.Map.{Entry, entry, Ascends, retain, below, above, onward, get, isSome, containsKey, insert, firstKey, lastKey}
-use Rattle.rbitcoin_net.specs.History.{History, setBlocks, setTotal, setHashes, setHurdles, setStale, setRates, new, hurdleOf, forget, forgetAll, next, truncateAbove, noteHash, evictOne, evictBlocks, evict, hold, pushMaybe, preloadHurdle, preloadRate, insertOf, insertIfAbsentOf, hurdlesOf, rebuilt, keep, afterRates}
+use Rattle.rbitcoin_net.specs.History.{History, setBlocks, setTotal, setHurdles, setStale, setRates, new, hurdleOf, forget, forgetAll, next, truncateAbove, noteHash, evictOne, evictBlocks, evict, hold, pushMaybe, preloadHurdle, preloadRate, insertOf, insertIfAbsentOf, hurdlesOf, rebuilt, keep, afterRates}
 use Rattle.rbitcoin_net.specs.Sums.{sumOf, Exact}
 use Rattle.rbitcoin_net.proofs.Tables.{either, not-both}
 use Rattle.rbitcoin_net.proofs.CutViews.{without, cut-is}

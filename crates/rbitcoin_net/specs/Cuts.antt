@@ -1,7 +1,7 @@
 -- `truncate_above`, for every state and memory. Definitions only.
 use Prim.Native.Nat.{ℕ, zero, suc, _+_, _-_}
 use mathlib.Core.Path.{_≡_}
-use mathlib.Core.Bool.{Bool, true, false, cond, not, _&&_}
+use mathlib.Core.Bool.{false, cond, not, _&&_}
 use mathlib.Core.List.{List}
 use lib.Dec.{eqb}
 use lib.Ieee.{Float}
@@ -11,8 +11,8 @@ use Rattle.rbitcoin_mempool.specs.declared.fee_analog.history.AnalogHistory.{An
 use Rattle.rbitcoin_mempool.specs.Outcome.{Verdict, verdictOf}
 use Rattle.rbitcoin_mempool.specs.Rates.{markOf}
 use Rattle.rbitcoin_mempool.specs.Windows.{orElse, popBackOf}
-use Rattle.rbitcoin_net.specs.History.{History, next, hurdleOf, truncateAbove}
-use Rattle.rbitcoin_net.specs.Lent.{Rows, Hashes, Lent, lent, view, Sound, stateRefusal, rowsRefusal, hashesRefusal}
+use Rattle.rbitcoin_net.specs.History.{next, hurdleOf, truncateAbove}
+use Rattle.rbitcoin_net.specs.Lent.{Rows, Hashes, lent, view, Sound, stateRefusal, rowsRefusal, hashesRefusal}
 use Rattle.rbitcoin_net.specs.Search.{placeOf}
 use Rattle.rbitcoin_net.specs.Hashes.{kept, hashPlace}
 use Rattle.rbitcoin_net.specs.declared.fee_history.HistoricalFeeBlock.{HistoricalFeeBlock}

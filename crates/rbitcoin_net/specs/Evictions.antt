@@ -7,7 +7,7 @@ use Rattle.rbitcoin_mempool.specs.Rates.{markOf}
 use Rattle.rbitcoin_mempool.specs.Windows.{popFrontOf}
 use Rattle.rbitcoin_net.specs.History.{hurdleOf}
 use Rattle.rbitcoin_net.specs.Lent.{Rows, Hashes}
-use Rattle.rbitcoin_net.specs.Hashes.{Kept, kept, removeHash}
+use Rattle.rbitcoin_net.specs.Hashes.{kept, removeHash}
 use Rattle.rbitcoin_net.specs.Cuts.{withRows, withSums, withHashes, unkept, forgetRow}
 use Rattle.rbitcoin_net.specs.declared.fee_history.HistoricalFeeBlock.{HistoricalFeeBlock}
 use Rattle.rbitcoin_net.specs.declared.fee_history.FeeHistory.{FeeHistory}

@@ -7,9 +7,7 @@ use mathlib.Core.Option.{Option, none, some}
 use lib.Dec.{ltb, eqb}
 use lib.ListN.{length, set, take, drop}
 use Rattle.slices.specs.Lists.{moved}
-use Rattle.rbitcoin_net.specs.Map.{Ascends, below, remove, insert}
-use Rattle.rbitcoin_net.specs.History.{newest}
-use Rattle.rbitcoin_net.specs.Lent.{Hashes, hashes, hashesIn}
+use Rattle.rbitcoin_net.specs.Lent.{Hashes, hashes}
 use Rattle.rbitcoin_net.specs.Search.{bisect, isAt}
 use Rattle.rbitcoin_net.specs.declared.fee_history.BlockHash.{BlockHash}
 

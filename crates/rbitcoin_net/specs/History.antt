@@ -1,7 +1,7 @@
 -- The Rust's history, and its functions, after fee_history.rs. Each definition has the Rust's lines in the Rust's order. Definitions only.
 use Prim.Native.Nat.{ℕ, _+_, _-_, _^_, min}
 use mathlib.Core.Bool.{Bool, true, false, cond, not, _&&_}
-use mathlib.Core.List.{List, [], _∷_, _++_, map}
+use mathlib.Core.List.{List, [], _∷_, map}
 use mathlib.Core.Option.{Option, none, some}
 use lib.Dec.{leb, ltb}
 use lib.ListN.{length, drop}
@@ -12,7 +12,7 @@ use Rattle.rbitcoin_mempool.specs.Answer.{none as nothing}
 use Rattle.rbitcoin_mempool.specs.Rates.{given}
 use Rattle.rbitcoin_mempool.specs.Pairs.{pushBack, pushFront, popBack, popFront, pairsOf}
 use Rattle.rbitcoin_mempool.specs.Scan.{rateAmong}
-use Rattle.rbitcoin_net.specs.Map.{Entry, entry, below, onward, get, containsKey, isSome, remove, insert, firstKey, lastKey}
+use Rattle.rbitcoin_net.specs.Map.{Entry, below, onward, get, containsKey, isSome, remove, insert, firstKey, lastKey}
 use Rattle.rbitcoin_net.specs.declared.fee_history.HistoricalFeeBlock.{HistoricalFeeBlock}
 
 -- `blocks`, `txstat_bytes`, `budget`, `targets`, `hashes`, `analog`, `analog_stale`, `rates`. The windows are their hurdles: the pairs are those of the hurdles. Kept rates are in tracked order, where the Rust has a map by target.

@@ -14,10 +14,10 @@ use Rattle.rbitcoin_net.specs.Map.{isSome, below, containsKey}
 use Rattle.rbitcoin_net.specs.History.{hurdleOf, insertOf, insertIfAbsentOf}
 use Rattle.rbitcoin_net.specs.Lent.{Rows, Hashes, Lent, lent, windowsOf, view, Sound, stateRefusal, rowsRefusal, hashesRefusal, lentRefusal}
 use Rattle.rbitcoin_net.specs.Search.{placeOf, isHeld}
-use Rattle.rbitcoin_net.specs.Hashes.{Kept, kept, noteHashIn}
+use Rattle.rbitcoin_net.specs.Hashes.{kept, noteHashIn}
 use Rattle.rbitcoin_net.specs.Cuts.{withHashes, unkept, dropFrom}
-use Rattle.rbitcoin_net.specs.Rooms.{Stored, stored, holdAt}
-use Rattle.rbitcoin_net.specs.Evictions.{Held, held, evictIn}
+use Rattle.rbitcoin_net.specs.Rooms.{stored, holdAt}
+use Rattle.rbitcoin_net.specs.Evictions.{held, evictIn}
 use Rattle.rbitcoin_net.specs.declared.fee_history.HistoricalFeeBlock.{HistoricalFeeBlock}
 use Rattle.rbitcoin_net.specs.declared.fee_history.FeeHistory.{FeeHistory}
 

@@ -2,7 +2,7 @@
 use mathlib.Core.Path.{_≡_, refl, sym, ap, _∙_}
 use mathlib.Core.Bool.{Bool, true, false, cond, _&&_}
 use mathlib.Core.List.{List, [], _∷_, _++_, append-assoc, append-nil}
-use Prim.Native.Nat.{ℕ, zero, suc, _+_, _-_, _%_, _^_, _≤_, _<_, zero-le, suc-le-suc}
+use Prim.Native.Nat.{ℕ, zero, suc, _+_, _-_, _%_, _^_, _≤_, _<_, zero-le}
 use native.Mathlib.Nat.{le-antisymm, le-of-suc-le-suc, not-suc-le-zero}
 use native.Mathlib.Numerals.{add-one}
 use native.Mathlib.Omega.{arith}
@@ -10,7 +10,7 @@ use lib.Dec.{leb, ltb}
 use lib.ListN.{length, getD, take, drop, set, length-set, drop-of-length-le}
 use lib.Seq.{take-suc-set, take-set-le, drop-cons}
 use borrow.Author.Tests.{leb-true, leb-false, le-leb, lt-leb, lt-ltb, le-ltb}
-use Rattle.slices.specs.Sorted.{sorted, tally, atMost, below, between, Least, Most}
+use Rattle.slices.specs.Sorted.{sorted, tally, atMost, below, between}
 use Rattle.slices.proofs.Sorting.{atMost-all, kth-at-most, kth-above, kth-least, kth-most, kth-reached}
 use Rattle.slices.proofs.Tallies.{below-suc}
 use Rattle.slices.proofs.Halves.{tally-le}

@@ -11,8 +11,6 @@ use Rattle.slices.specs.Sorted.{atMost}
 use Rattle.slices.proofs.Sorting.{tally-yes, tally-no, tally-end}
 use Rattle.slices.proofs.order.count_at_most.Statement.{statement}
 use Rattle.slices.proofs.order.count_at_most.Tie as tie
-use Rattle.slices.proofs.order.count_at_most.Reads as reads
-use Rattle.slices.proofs.order.count_at_most.Lts as lts
 
 abbrev Inv-loop : tie.InvT-loop
 Inv-loop xs v n₀ i₀ n i = (i ≤ length xs) × (n ≤ i) × (n + atMost v (drop i xs) ≡ atMost v xs)

@@ -7,8 +7,6 @@ use mathlib.Core.Logic.{⊎-elim}
 use lib.ListN.{length, length-set}
 use Rattle.slices.proofs.order.gather.Statement.{statement}
 use Rattle.slices.proofs.order.gather.Tie as tie
-use Rattle.slices.proofs.order.gather.Reads as reads
-use Rattle.slices.proofs.order.gather.Lts as lts
 
 abbrev Inv-loop : tie.InvT-loop
 Inv-loop xs lo hi stride out₀ n₀ i₀ out n i = (n ≤ length out₀) × (length out ≡ length out₀)

@@ -6,8 +6,6 @@ use borrow.Author.Count.{below-more}
 use lib.ListN.{length, getD}
 use Rattle.slices.proofs.order.greatest.Statement.{statement}
 use Rattle.slices.proofs.order.greatest.Tie as tie
-use Rattle.slices.proofs.order.greatest.Reads as reads
-use Rattle.slices.proofs.order.greatest.Lts as lts
 
 abbrev Inv-loop : tie.InvT-loop
 Inv-loop xs m₀ i₀ m i = (i ≤ length xs) × ((j : ℕ) → j < i → getD xs j 0 ≤ m)

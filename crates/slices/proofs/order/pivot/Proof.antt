@@ -1,6 +1,5 @@
 -- `slices::order::pivot` meets its contract. Assumes nothing.
 use borrow.Author.Needs.{needs}
-use native.Mathlib.Omega.{arith}
 use mathlib.Core.Path.{sym}
 use lib.Seq.{length-take-le}
 use Rattle.slices.proofs.order.pivot.Statement.{statement}

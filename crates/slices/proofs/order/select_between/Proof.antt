@@ -1,6 +1,5 @@
 -- `slices::order::select_between` meets its contract. Assumes nothing.
 use borrow.Author.Needs.{needs}
-use native.Mathlib.Omega.{arith}
 use mathlib.Core.Path.{sym, ap, _∙_}
 use lib.ListN.{length, getD}
 use Rattle.slices.specs.Sorted.{sorted}

@@ -1,5 +1,4 @@
 -- `fee_history::hashes::note_hash` meets its contract. Assumes nothing.
-use mathlib.Core.Path.{sym, _∙_}
 use borrow.Author.Tests.{not-true, not-false}
 use Rattle.rbitcoin_net.proofs.Hashes.{hash-place-is, note-nothing, note-given}
 use borrow.Author.Needs.{needs}

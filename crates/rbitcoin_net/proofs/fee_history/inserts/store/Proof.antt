@@ -1,5 +1,5 @@
 -- `fee_history::inserts::store` meets its contract. Assumes nothing.
-use mathlib.Core.Path.{_≡_, _∙_}
+use mathlib.Core.Path.{_≡_}
 use lib.ListN.{length}
 use Rattle.rbitcoin_net.proofs.Inserting.{hold-room, evict-ready, note-ready, stored-all}
 use borrow.Author.Needs.{needs}

@@ -1,11 +1,10 @@
 -- `fee_history::rates::answered` meets its contract. Assumes nothing.
-use Prim.Native.Nat.{ℕ, _≤_, _<_}
+use Prim.Native.Nat.{_≤_}
 use mathlib.Core.List.{[]}
-use mathlib.Core.Path.{_≡_, refl, sym, ap, _∙_, subst}
+use mathlib.Core.Path.{refl, sym, _∙_}
 use native.Mathlib.Omega.{arith}
 use denote.Ref.{now}
 use lib.ListN.{length}
-use Rattle.rbitcoin_mempool.specs.Windows.{windows}
 use Rattle.rbitcoin_net.specs.Lent.{rows}
 use Rattle.rbitcoin_net.specs.Rates.{rated}
 use Rattle.rbitcoin_net.proofs.Rates.{false-true, kept-answers, fresh-answers, fresh-tracked, fresh-scratch}

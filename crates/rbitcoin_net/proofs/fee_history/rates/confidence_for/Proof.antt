@@ -1,5 +1,5 @@
 -- `fee_history::rates::confidence_for` meets its contract. Assumes nothing.
-use mathlib.Core.Path.{_≡_, refl, sym, _∙_}
+use mathlib.Core.Path.{sym, _∙_}
 use lib.Ieee.{ofInt, ofBits}
 use borrow.Author.Needs.{needs}
 use borrow.Author.Tests.{le-leb, lt-leb}

@@ -1,5 +1,4 @@
 -- `fee_history::rates::refresh` meets its contract. Assumes nothing.
-use mathlib.Core.Path.{refl}
 use Rattle.rbitcoin_mempool.specs.Windows.{windows}
 use denote.Ref.{now}
 use Rattle.rbitcoin_net.specs.Lent.{rows}

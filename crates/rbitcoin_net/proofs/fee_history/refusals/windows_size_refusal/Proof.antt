@@ -3,7 +3,6 @@ use native.Mathlib.Omega.{arith}
 use borrow.Author.Tests.{lt-ltb, le-ltb}
 use Rattle.rbitcoin_mempool.specs.Windows.{sizeRefusal}
 use Rattle.rbitcoin_mempool.proofs.Refusals.{places-fit, sound}
-use borrow.Author.Needs.{needs}
 use Rattle.rbitcoin_net.proofs.fee_history.refusals.windows_size_refusal.Statement.{statement}
 use Rattle.rbitcoin_net.proofs.fee_history.refusals.windows_size_refusal.Tie as tie
 

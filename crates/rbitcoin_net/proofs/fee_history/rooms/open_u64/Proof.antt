@@ -1,5 +1,4 @@
 -- `fee_history::rooms::open_u64` meets its contract. Assumes nothing.
-use native.Mathlib.Omega.{arith}
 use mathlib.Core.Path.{_∙_}
 use lib.ListN.{length-set}
 use Rattle.rbitcoin_net.proofs.Rooms.{open-down, open-up}

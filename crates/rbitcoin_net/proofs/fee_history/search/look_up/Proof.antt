@@ -1,5 +1,4 @@
 -- `fee_history::search::look_up` meets its contract. Assumes nothing.
-use Prim.Native.Nat.{_+_, _<_}
 use native.Mathlib.Omega.{arith}
 use mathlib.Core.Path.{sym, _∙_}
 use borrow.Author.Needs.{needs}
