@@ -1,7 +1,7 @@
 -- The product of two words, column by column from the products of their halves. Assumes nothing.
-use mathlib.Core.Path.{_≡_, refl, _∙_}
+use mathlib.Core.Path.{_≡_, refl, sym, ap, _∙_}
 use Prim.Native.Nat.{ℕ, _+_, _-_, _*_, _/_, _%_, _^_, _≤_, _<_}
-use native.Mathlib.Nat.{mul-le-mul, div-add-mod'}
+use native.Mathlib.Nat.{mul-le-mul, div-add-mod', add-mod-mod, mul-add-mod-self-right, mod-eq-of-lt}
 use native.Mathlib.Omega.{arith}
 use lib.Pow.{le-ones}
 
@@ -20,6 +20,27 @@ Added p q r s m n = (p + m / 2 ^ 32 + n / 2 ^ 32) * 2 ^ 64 + (n % 2 ^ 32 * 2 ^ 3
 added : (p q r s m n : ℕ) → m ≡ q + s / 2 ^ 32 → n ≡ r + m % 2 ^ 32 → Added p q r s m n
 added p q r s m n e f = omega arith
 
+-- the lower word is that of s + (q + r) * 2 ^ 32, whatever wraps
+abbrev Lowered : (q r s m n : ℕ) → Type 0
+Lowered q r s m n = (s + (q + r) % 2 ^ 64 * 2 ^ 32 % 2 ^ 64) % 2 ^ 64 ≡ n % 2 ^ 32 * 2 ^ 32 + s % 2 ^ 32
+
+-- a factor may wrap before a product that wraps
+wrapped : (x : ℕ) → x % 2 ^ 64 * 2 ^ 32 % 2 ^ 64 ≡ x * 2 ^ 32 % 2 ^ 64
+wrapped x =
+    let e : x * 2 ^ 32 ≡ x / 2 ^ 64 * 2 ^ 32 * 2 ^ 64 + x % 2 ^ 64 * 2 ^ 32 = omega arith in
+    sym (ap (λ (z : ℕ). z % 2 ^ 64) e ∙ mul-add-mod-self-right (x / 2 ^ 64 * 2 ^ 32) (2 ^ 64) (x % 2 ^ 64 * 2 ^ 32))
+
+lowered : (q r s m n : ℕ) → m ≡ q + s / 2 ^ 32 → n ≡ r + m % 2 ^ 32 → Lowered q r s m n
+lowered q r s m n e f =
+    let over : s + (q + r) * 2 ^ 32 ≡ (m / 2 ^ 32 + n / 2 ^ 32) * 2 ^ 64 + (n % 2 ^ 32 * 2 ^ 32 + s % 2 ^ 32) = split (added 0 q r s m n e f) in
+    ap (λ (z : ℕ). (s + z) % 2 ^ 64) (wrapped (q + r)) ∙ add-mod-mod s ((q + r) * 2 ^ 32) (2 ^ 64) ∙ ap (λ (z : ℕ). z % 2 ^ 64) over ∙ mul-add-mod-self-right (m / 2 ^ 32 + n / 2 ^ 32) (2 ^ 64) (n % 2 ^ 32 * 2 ^ 32 + s % 2 ^ 32) ∙ mod-eq-of-lt (below n s)
+  where
+    split : Added 0 q r s m n → s + (q + r) * 2 ^ 32 ≡ (m / 2 ^ 32 + n / 2 ^ 32) * 2 ^ 64 + (n % 2 ^ 32 * 2 ^ 32 + s % 2 ^ 32)
+    split w = omega arith
+
+    below : (n s : ℕ) → n % 2 ^ 32 * 2 ^ 32 + s % 2 ^ 32 < 2 ^ 64
+    below n s = omega arith
+
 pub record Columns (p q r s m n : ℕ) : Type 0 where
   pub upper : Small p
   pub left : Small q
@@ -30,9 +51,10 @@ pub record Columns (p q r s m n : ℕ) : Type 0 where
   pub carried : p + m / 2 ^ 32 < 2 ^ 64
   pub top : p + m / 2 ^ 32 + n / 2 ^ 32 < 2 ^ 64
   pub whole : Added p q r s m n
+  pub low-word : Lowered q r s m n
 
 columns : {p q r s m n : ℕ} → Small p → Small q → Small r → Small s → m ≡ q + s / 2 ^ 32 → n ≡ r + m % 2 ^ 32 → Columns p q r s m n
-columns {p} {q} {r} {s} {m} {n} hp hq hr hs e f = record { upper = hp; left = hq; right = hr; lower = hs; second = omega arith; third = omega arith; carried = omega arith; top = omega arith; whole = added p q r s m n e f }
+columns {p} {q} {r} {s} {m} {n} hp hq hr hs e f = record { upper = hp; left = hq; right = hr; lower = hs; second = omega arith; third = omega arith; carried = omega arith; top = omega arith; whole = added p q r s m n e f; low-word = lowered q r s m n e f }
 
 -- of a₁ * 2 ^ 32 + a₀ and b₁ * 2 ^ 32 + b₀
 abbrev OfHalves : (a₁ a₀ b₁ b₀ : ℕ) → Type 0

@@ -22,7 +22,7 @@ struct Division {
 }
 
 // a * b. Of the four products of halves, the two in the middle are added to what the low one
-// carries; no sum of these passes 64 bits.
+// carries; no sum of these passes 64 bits. In this form the compiler makes one multiplication of it.
 pub fn wide_product(a: u64, b: u64) -> Wide
     ensures { λ r. ⌜ value r ≡ a * b ⌝ }
 {
@@ -31,11 +31,14 @@ pub fn wide_product(a: u64, b: u64) -> Wide
     let b1 = b / 4294967296;
     let b0 = b % 4294967296;
     let low = a0 * b0;
-    let middle = a1 * b0 + low / 4294967296;
-    let other = a0 * b1 + middle % 4294967296;
+    let one = a1 * b0;
+    let two = a0 * b1;
+    let middle = one + low / 4294967296;
+    let other = two + middle % 4294967296;
+    let sum = std::num::wrapping_add_u64(one, two);
     Wide {
         hi: a1 * b1 + middle / 4294967296 + other / 4294967296,
-        lo: other % 4294967296 * 4294967296 + low % 4294967296,
+        lo: std::num::wrapping_add_u64(low, sum << 32),
     }
 }
 

@@ -1,5 +1,6 @@
 -- `num::wide_product` meets its contract, by `proofs/WideProduct.antt`. Assumes nothing.
-use mathlib.Core.Path.{_∙_}
+use mathlib.Core.Path.{_≡_, _∙_, ap}
+use Prim.Native.Nat.{ℕ, _+_, _*_, _/_, _%_, _^_}
 use native.Mathlib.Omega.{arith}
 use borrow.Author.Needs.{needs}
 use Rattle.num.specs.Wide.{value}
@@ -13,36 +14,51 @@ of c = product (c .args .a) (c .args .b) (c .fits .a .fits) (c .fits .b .fits)
 mul-low : tie.Need-mul-low
 mul-low c = omega (arith, of c .lower)
 
-mul-middle : tie.Need-mul-middle
-mul-middle c = omega (arith, of c .left)
+mul-one : tie.Need-mul-one
+mul-one c = omega (arith, of c .left)
+
+mul-two : tie.Need-mul-two
+mul-two c = omega (arith, of c .right)
 
 add-middle : tie.Need-add-middle
 add-middle c = record { fits = of c .second }
 
-mul-other : tie.Need-mul-other
-mul-other c = omega (arith, of c .right)
-
 add-other : tie.Need-add-other
 add-other c = record { fits = of c .third }
 
-mul-t10 : tie.Need-mul-t10
-mul-t10 c = omega (arith, of c .upper)
+wrapping-add-u64-requires : tie.Need-wrapping-add-u64-requires
+wrapping-add-u64-requires c κs = search needs
 
-add-t12 : tie.Need-add-t12
-add-t12 c = record { fits = of c .carried }
+mul-t13 : tie.Need-mul-t13
+mul-t13 c = omega (arith, of (c .before) .upper)
 
-add-t14 : tie.Need-add-t14
-add-t14 c = record { fits = of c .top }
+add-t15 : tie.Need-add-t15
+add-t15 c = record { fits = of (c .before) .carried }
 
-mul-t16 : tie.Need-mul-t16
-mul-t16 c = search needs
+add-t17 : tie.Need-add-t17
+add-t17 c = record { fits = of (c .before) .top }
 
-add-t18 : tie.Need-add-t18
-add-t18 c = search needs
+wrapping-add-u64-requires-2 : tie.Need-wrapping-add-u64-requires-2
+wrapping-add-u64-requires-2 c κs = search needs
 
 returns : tie.Need-returns
 unfolding value
-returns c = of c .whole ∙ of-halves (c .args .a) (c .args .b)
+returns c =
+    let s = c .before .before in
+    cc (c .wrapping-add-u642 .ensures, c .before .wrapping-add-u64 .ensures, of s .low-word, of s .whole, of-halves (s .args .a) (s .args .b))
 
 pub wide-product-spec : {M : Type 1} → statement M
-wide-product-spec = tie.close (tie.spec mul-low mul-middle add-middle mul-other add-other mul-t10 add-t12 add-t14 mul-t16 add-t18 returns)
+wide-product-spec =
+    tie.close
+    (tie.spec
+    mul-low
+    mul-one
+    mul-two
+    add-middle
+    add-other
+    wrapping-add-u64-requires
+    mul-t13
+    add-t15
+    add-t17
+    wrapping-add-u64-requires-2
+    returns)
