@@ -3,7 +3,7 @@
 ghost use mathlib.Core.Path.{_≡_};
 ghost use mathlib.Core.Bool.{true, cond};
 ghost use Prim.Native.Nat.{min, _<_};
-ghost use lib.ListN.{length, getD};
+ghost use lib.ListN.{length};
 ghost use Rattle.rbitcoin_mempool.specs.Rates.{given, refusalNumber, rateAt, ratesOf, marksValid, marksOf, numbersOver};
 ghost use Rattle.rbitcoin_mempool.specs.Hold.{enforceMonotoneDesc, holdDefinedThenMonotone, holdRefusal, heldNumbers, heldMarks, neverDescends};
 use crate::answer::Outcome;

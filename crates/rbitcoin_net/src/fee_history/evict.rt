@@ -2,7 +2,7 @@
 ghost use mathlib.Core.Path.{_≡_};
 ghost use mathlib.Core.List.{[]};
 ghost use Prim.Native.Nat.{_+_, _≤_, _<_};
-ghost use lib.ListN.{length, getD};
+ghost use lib.ListN.{length};
 ghost use Rattle.rbitcoin_mempool.specs.Windows.{popFrontOf};
 ghost use Rattle.rbitcoin_net.specs.Cuts.{forgetBlock};
 ghost use Rattle.rbitcoin_net.specs.Evictions.{held, evictBlock, evictIn};

@@ -1,10 +1,9 @@
 // The kept hashes: 144 heights, sorted from the first place on, and 32 bytes for each.
 ghost use mathlib.Core.Path.{_≡_};
-ghost use mathlib.Core.List.{_++_};
 ghost use Prim.Native.Nat.{_+_, _-_, _*_, _≤_, _<_};
-ghost use lib.ListN.{length, take, drop};
+ghost use lib.ListN.{length};
 ghost use Rattle.rbitcoin_net.specs.Lent.{hashes};
-ghost use Rattle.rbitcoin_net.specs.Hashes.{kept, hashOf, Room, movedHashes, putHash, removeAt, removeHash, noteAt, noteHashIn};
+ghost use Rattle.rbitcoin_net.specs.Hashes.{kept, hashOf, Room, movedHashes, putHash, removeHash, noteAt, noteHashIn};
 use super::BlockHash;
 use super::RECENT_HASHES;
 use super::search::is_at;

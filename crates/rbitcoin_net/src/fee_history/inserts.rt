@@ -1,7 +1,7 @@
 // What `insert` and `insert_if_absent` are made of.
 ghost use mathlib.Core.Bool.{false};
 ghost use mathlib.Core.Path.{_≡_};
-ghost use Prim.Native.Nat.{_+_, _≤_, _<_};
+ghost use Prim.Native.Nat.{_+_, _<_};
 ghost use lib.ListN.{length};
 ghost use Rattle.rbitcoin_mempool.specs.Outcome.{verdict};
 ghost use Rattle.rbitcoin_mempool.specs.Rates.{given};
