@@ -3,19 +3,50 @@
 use std::hint::black_box;
 use std::time::{Duration, Instant};
 
-const ROUNDS: usize = 25;
+/// So many inputs that no processor learns which way the branches on them go: 4,096 are few enough.
+pub const INPUTS: usize = 1 << 17;
 /// The shortest time that one measurement of the faster side takes.
 const LEAST: Duration = Duration::from_millis(2);
 
-#[derive(Default)]
+/// An entry point, and the nanoseconds that a call takes on either side.
+pub struct Row {
+    pub name: String,
+    pub rattle: f64,
+    pub rust: f64,
+}
+
+impl Row {
+    /// The Rattle's time over the Rust's.
+    pub fn ratio(&self) -> f64 {
+        self.rattle / self.rust
+    }
+
+    /// The lesser time of each side, of two runs.
+    pub fn least(&mut self, other: &Row) {
+        self.rattle = self.rattle.min(other.rattle);
+        self.rust = self.rust.min(other.rust);
+    }
+}
+
+/// Times rows: all, or the one of a name.
 pub struct Bench {
-    /// The largest ratio so far.
-    pub worst: f64,
+    pub only: Option<String>,
+    pub rounds: u64,
+    pub rows: Vec<Row>,
+}
+
+impl Default for Bench {
+    fn default() -> Bench {
+        Bench {
+            only: None,
+            rounds: 25,
+            rows: Vec::new(),
+        }
+    }
 }
 
 impl Bench {
-    /// Prints the row `name  ratio`: the Rattle's time over the Rust's, each the least of all rounds.
-    /// The sides take turns, and each round swaps which goes first.
+    /// Each time is the least of all rounds. The sides take turns, and each round swaps which goes first.
     pub fn row<I, A, B>(
         &mut self,
         name: &str,
@@ -25,6 +56,7 @@ impl Bench {
     ) {
         self.measure(
             name,
+            inputs.len(),
             |repeats| time(repeats, inputs, &mut rattle),
             |repeats| time(repeats, inputs, &mut rust),
         );
@@ -41,6 +73,7 @@ impl Bench {
     ) {
         self.measure(
             name,
+            inputs.len(),
             |repeats| time(repeats, inputs, &mut rattle),
             |repeats| time_by_value(repeats, inputs, &mut rust),
         );
@@ -56,6 +89,7 @@ impl Bench {
     ) {
         self.measure(
             name,
+            inputs.len(),
             |repeats| time_by_value(repeats, inputs, &mut rattle),
             |repeats| time_by_value(repeats, inputs, &mut rust),
         );
@@ -65,15 +99,19 @@ impl Bench {
     fn measure(
         &mut self,
         name: &str,
+        inputs: usize,
         mut rattle: impl FnMut(u64) -> Duration,
         mut rust: impl FnMut(u64) -> Duration,
     ) {
+        if self.only.as_deref().is_some_and(|only| only != name) {
+            return;
+        }
         let mut repeats = 1;
         while rattle(repeats).min(rust(repeats)) < LEAST {
             repeats *= 2;
         }
         let (mut least_rattle, mut least_rust) = (Duration::MAX, Duration::MAX);
-        for round in 0..ROUNDS {
+        for round in 0..self.rounds {
             if round % 2 == 0 {
                 least_rattle = least_rattle.min(rattle(repeats));
             }
@@ -82,9 +120,12 @@ impl Bench {
                 least_rattle = least_rattle.min(rattle(repeats));
             }
         }
-        let ratio = least_rattle.as_secs_f64() / least_rust.as_secs_f64();
-        println!("{name:<32}  {ratio:.2}");
-        self.worst = self.worst.max(ratio);
+        let calls = repeats as f64 * inputs as f64;
+        self.rows.push(Row {
+            name: name.to_string(),
+            rattle: least_rattle.as_nanos() as f64 / calls,
+            rust: least_rust.as_nanos() as f64 / calls,
+        });
     }
 }
 

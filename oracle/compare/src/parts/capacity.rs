@@ -2,7 +2,7 @@
 //! of fee_est.rs. No stand-in concerns them, so that a difference with either Rust fails the run.
 
 use super::Part;
-use crate::bench::Bench;
+use crate::bench::{Bench, INPUTS};
 use crate::check::{Function, Job, Plan};
 use crate::lent::{Lent, RateFields, lend};
 use crate::replay::Replay;
@@ -759,7 +759,7 @@ impl Part for Capacity {
     }
 
     fn bench(&self, bench: &mut Bench) {
-        let rates = bench_inputs(4096, draw_market_rate);
+        let rates = bench_inputs(INPUTS, draw_market_rate);
         bench.row(
             "bucket_index",
             &rates,
@@ -776,7 +776,7 @@ impl Part for Capacity {
         let mut sums = [0; SUFFIX_COUNT];
         bench.row(
             "inflow_suffix_wu",
-            &bench_inputs(64, draw_market_inflow),
+            &bench_inputs(INPUTS / 402, draw_market_inflow),
             |inflow| {
                 rattle::inflow_suffix_wu(inflow, INFLOW_HORIZON_CAP_SECS, &mut sums);
                 black_box(&sums)[0]
@@ -785,13 +785,13 @@ impl Part for Capacity {
         );
         bench.row(
             "min_rate_for_capacity_401",
-            &bench_inputs(64, draw_market_search),
+            &bench_inputs(INPUTS / 401, draw_market_search),
             |of| rattle::min_rate_for_capacity(&of.candidates, &of.stock, &of.inflow, of.n),
             |of| rust::min_rate_for_capacity(&of.candidates, &of.stock, &of.inflow, of.n),
         );
         bench.row_by_value(
             "percentile_sat_1000",
-            &bench_inputs(64, |rng| {
+            &bench_inputs(INPUTS / 1_000, |rng| {
                 let pct = rng.pick(&[10, 25, 50, 75, 90]);
                 let rates = (0..1_000).map(|_| draw_market_rate(rng));
                 (pct, rates.collect::<Vec<u64>>())

@@ -7,7 +7,7 @@
 //! in 64 bits, so that it holds every one of them, the largest u64 too.
 
 use super::Part;
-use crate::bench::Bench;
+use crate::bench::{Bench, INPUTS};
 use crate::check::{Function, Job, Plan};
 use crate::replay::Replay;
 use crate::rng::Rng;
@@ -725,8 +725,6 @@ fn warm<M: Meter>() -> (M, u64) {
     (meter, clock)
 }
 
-const BENCH_INPUTS: usize = 4096;
-
 pub struct FeeFlow;
 
 impl Part for FeeFlow {
@@ -764,7 +762,7 @@ impl Part for FeeFlow {
             let gap = 500_000 + rng.below(1_000_000);
             (400 + rng.below(400_000), draw_rate(&mut rng), gap)
         };
-        let calls: Vec<(u64, u64, u64)> = (0..BENCH_INPUTS).map(draw).collect();
+        let calls: Vec<(u64, u64, u64)> = (0..INPUTS).map(draw).collect();
         let ((mut ours, mut clock), (mut theirs, start)) =
             (warm::<RattleMeter>(), warm::<Patched>());
         let mut instant = at(start);

@@ -1,7 +1,7 @@
 //! Part `num`: what Rust's std supplied to the fee code, and the stand-ins for `exp` and `ln`.
 
 use super::Part;
-use crate::bench::Bench;
+use crate::bench::{Bench, INPUTS};
 use crate::check::{Function, Job, Plan};
 use crate::replay::Replay;
 use crate::rng::Rng;
@@ -635,11 +635,9 @@ fn ask_stand_ins(replay: &mut Replay) {
     replay.ask(&LN_1_25, [()]);
 }
 
-const BENCH_INPUTS: usize = 4096;
-
 fn bench_inputs<I>(draw: fn(&mut Rng) -> I) -> Vec<I> {
     let mut rng = Rng::new(1, "bench num");
-    (0..BENCH_INPUTS).map(|_| draw(&mut rng)).collect()
+    (0..INPUTS).map(|_| draw(&mut rng)).collect()
 }
 
 pub struct Num;
@@ -691,6 +689,6 @@ impl Part for Num {
         row!(bench, &weights, exp(x));
         let hurdles = bench_inputs(|rng| 100 + rng.below(1_000_000));
         row!(bench, &hurdles, ln(n));
-        row!(bench, &[(); BENCH_INPUTS], ln_1_25());
+        row!(bench, &[(); INPUTS], ln_1_25());
     }
 }

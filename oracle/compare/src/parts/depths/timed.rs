@@ -3,7 +3,7 @@
 use super::draw::Ends;
 use super::lists::{Loop, Marked};
 use super::rattle;
-use crate::bench::Bench;
+use crate::bench::{Bench, INPUTS};
 use crate::rng::Rng;
 use std::hint::black_box;
 
@@ -87,7 +87,9 @@ impl From<&Loop> for rust::Lists {
 /// The loop over `count` depths, and lookups in what it left.
 fn bench_lists(bench: &mut Bench, count: u32, rows: [&str; 2]) {
     let mut rng = Rng::new(1, "bench depths");
-    let loops: Vec<Loop> = (0..64).map(|_| bench_loop(&mut rng, count)).collect();
+    let loops: Vec<Loop> = (0..INPUTS / 8 / count as usize)
+        .map(|_| bench_loop(&mut rng, count))
+        .collect();
     let inputs: Vec<(Loop, rust::Lists)> = loops
         .into_iter()
         .map(|of| (of.clone(), rust::Lists::from(&of)))
@@ -108,7 +110,7 @@ fn bench_lists(bench: &mut Bench, count: u32, rows: [&str; 2]) {
     );
     let depths = bench_depths(count);
     let last = u64::from(depths[depths.len() - 1]);
-    let targets: Vec<u32> = (0..4096).map(|_| rng.below(last + 3) as u32).collect();
+    let targets: Vec<u32> = (0..INPUTS).map(|_| rng.below(last + 3) as u32).collect();
     bench.row(
         rows[1],
         &targets,
@@ -123,7 +125,7 @@ pub fn bench(bench: &mut Bench) {
     let rows = ["published_depth_rates_64", "fee_at_target_sat_kvb_64"];
     bench_lists(bench, 64, rows);
     let mut rng = Rng::new(1, "bench lerp");
-    let ends: Vec<Ends> = (0..4096)
+    let ends: Vec<Ends> = (0..INPUTS)
         .map(|_| {
             let start = 1 + rng.below(100) as u32;
             let span = 1 + rng.below(100);

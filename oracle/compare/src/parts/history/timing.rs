@@ -2,7 +2,7 @@
 
 use super::rattle::{self, Memory};
 use super::sides::{Hash, Opening, Patched, Port, Side, block_hash, hash_bytes, marked};
-use crate::bench::Bench;
+use crate::bench::{Bench, INPUTS};
 use crate::parts::windows::inputs::{BOX_CAPACITY, BOX_HURDLES, BOX_TARGETS, CALM, Stretch};
 use crate::rng::Rng;
 use patched_net::fee_history::HistoricalFeeBlock;
@@ -183,26 +183,27 @@ fn insert_rows(bench: &mut Bench) {
 
 fn read_rows(bench: &mut Bench) {
     let (mut port, history) = histories(u64::MAX);
+    let (state, mut lent) = (port.state, all(&mut port.memory));
     let mut rng = Rng::new(1, "bench history");
-    let heights: Vec<u32> = (0..4_096)
+    let heights: Vec<u32> = (0..INPUTS)
         .map(|_| FIRST + rng.below(BOX_HURDLES) as u32)
         .collect();
     bench.row(
         "get",
         &heights,
-        |height| rattle::get(port.state, *height, &mut all(&mut port.memory)),
+        |height| rattle::get(state, *height, &mut lent),
         |height| rust::get(&history, *height),
     );
     bench.row(
         "entries_31000",
         &[()],
-        |_| rattle::entries(port.state, &mut all(&mut port.memory)),
+        |_| rattle::entries(state, &mut lent),
         |_| rust::entries(&history),
     );
     bench.row(
         "recent_hashes",
         &[()],
-        |_| rattle::recent_hashes(port.state, &mut all(&mut port.memory)),
+        |_| rattle::recent_hashes(state, &mut lent),
         |_| rust::recent_hashes(&history),
     );
 }
@@ -210,15 +211,15 @@ fn read_rows(bench: &mut Bench) {
 /// The rates of 11 targets: worked out, kept, and worked out after a preload between held heights.
 fn rate_rows(bench: &mut Bench) {
     let (mut port, mut history) = histories(u64::MAX);
+    let (mut state, mut lent) = (port.state, all(&mut port.memory));
     let mut rates = |bench: &mut Bench, name: &str, fresh: bool, stale: bool| {
         bench.row(
             name,
             &[()],
             |_| {
-                port.state.kept &= !fresh;
-                port.state.analog_stale |= stale;
-                let update = rattle::rates(port.state, &mut all(&mut port.memory));
-                port.state = update.state;
+                state.kept &= !fresh;
+                state.analog_stale |= stale;
+                state = rattle::rates(state, &mut lent).state;
             },
             |_| {
                 if fresh {

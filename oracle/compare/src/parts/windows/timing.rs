@@ -3,7 +3,7 @@
 use super::inputs::{BOX_CAPACITY, BOX_HURDLES, BOX_TARGETS, CALM, Stretch, length_for};
 use super::rattle;
 use super::sides::{Call, Opening, Patched, Port, Side};
-use crate::bench::Bench;
+use crate::bench::{Bench, INPUTS};
 use crate::rng::Rng;
 
 /// The Rust as it is timed: never inlined, so that both sides pay for a call.
@@ -162,13 +162,13 @@ fn list_rows(bench: &mut Bench) {
     };
     bench.row(
         "lower_median_126",
-        &lists(256, 126),
+        &lists(INPUTS as u64 / 126, 126),
         |list| rattle::lower_median(list),
         |list| rust::lower_median(list),
     );
     bench.row_of_copies(
         "log_quantile_200",
-        &lists(256, 200),
+        &lists(INPUTS as u64 / 200, 200),
         |mut list| rattle::log_quantile(&mut list, 0.95),
         |mut list| rust::log_quantile(&mut list, 0.95),
     );
