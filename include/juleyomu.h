@@ -393,7 +393,8 @@ JuleyomuMarkedRate juleyomu_flow_for_depth(JuleyomuMarkedRate projected, Juleyom
 /* Flow and history blended by the weight of n blocks; where one is missing, the other. */
 JuleyomuMarkedRate juleyomu_blend_sat_kvb(JuleyomuMarkedRate flow, JuleyomuMarkedRate hist, uint32_t n);
 
-/* Cold and warm blended by the warm-up share, held within 0 to 1; warm alone only at share 1. */
+/* Cold and warm blended by the warm-up share, held within 0 to 1, NaN and infinities as 0; warm alone only
+ * at share 1. */
 JuleyomuMarkedRate juleyomu_warmup_blend(double alpha, JuleyomuMarkedRate cold,
                                          JuleyomuMarkedRate warm);
 
@@ -426,8 +427,8 @@ uint8_t juleyomu_published_depth_rates(
 uint64_t juleyomu_lerp_sat_kvb(uint32_t d0, uint64_t left, uint32_t d1, uint64_t right, uint32_t target);
 
 /* The quote (sat/kvB) for a target in blocks, from the depths and their published rates; no rate for a
- * target below every depth with a rate, or, after refusal 1 and before 8 and 2, where there are no depths
- * or not as many as rates. Refuses 1 (rates and marks), 8, 2. */
+ * target below every depth with a rate, at a depth whose own rate is missing, or, after refusal 1 and
+ * before 8 and 2, where there are no depths or not as many as rates. Refuses 1 (rates and marks), 8, 2. */
 JuleyomuRateFields juleyomu_fee_at_target_sat_kvb(const uint32_t *depths, size_t depths_len,
                                                   const uint64_t *rates, size_t rates_len,
                                                   const uint8_t *marks, size_t marks_len,

@@ -47,7 +47,7 @@ fn published(inputs: &DepthInputs<'_>) -> Result<Marked, Refusal> {
 }
 
 /// The quote for a target: the rate of its depth, the straight line between two depths, the last rate beyond them; none
-/// below every depth that has a rate, and none for lists that are empty or of different lengths.
+/// below every depth that has a rate, at a depth whose own rate is missing, and for lists that are empty or of different lengths.
 ///
 /// # Errors
 ///
@@ -73,7 +73,7 @@ pub fn lerp(d0: u32, left: u64, d1: u32, right: u64, target: u32) -> u64 {
     ffi::juleyomu_lerp_sat_kvb(d0, left, d1, right, target)
 }
 
-/// Cold and warm blended by the warm-up share. Without a cold rate the warm one answers at share 1 alone.
+/// Cold and warm blended by the warm-up share, held within 0 to 1, NaN and infinities as 0. Without a cold rate the warm one answers at share 1 alone.
 #[must_use]
 pub fn warmup_blend(share: f64, cold: Option<u64>, warm: Option<u64>) -> Option<u64> {
     ffi::juleyomu_warmup_blend(share, cold.into(), warm.into()).into()

@@ -20,7 +20,8 @@ const OWN_MEMORY: &str = "a history lends memory of its own size";
 /// A block: its rate, and how many bytes it takes of the history's budget.
 #[derive(Clone, Copy, Debug, PartialEq, Eq, Hash)]
 pub struct Block {
-    /// What it asked for (sat/kvB); none for a block without fee-paying transactions.
+    /// What it asked for (sat/kvB); none for a block with its coinbase alone, or with every transaction below
+    /// the least relay rate.
     pub rate: Option<u64>,
     /// Its byte count.
     pub bytes: u64,

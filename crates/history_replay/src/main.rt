@@ -48,8 +48,8 @@ fn found(digest: u64, a: BlockAnswer) -> u64 {
     }
 }
 
-// The rate is a word itself, and there if 4 is among the code's digits; the byte count the word's last
-// three decimal digits, or with 8 the whole word.
+// The rate is a word itself, and there if bit 2 of the code is set; the byte count the word's last three
+// decimal digits, or with bit 3 the whole word.
 fn block_of(code: u64, word: u64) -> HistoricalFeeBlock {
     let mut bytes = word % 1000;
     if code & 8 == 8 {
@@ -65,8 +65,7 @@ fn block_of(code: u64, word: u64) -> HistoricalFeeBlock {
     }
 }
 
-// There if 16 is among the code's digits: the word's bytes four times, each with its place added without
-// carry.
+// There if bit 4 of the code is set: the word's bytes four times, each XOR its place.
 fn hash_of(code: u64, word: u64) -> BlockHash {
     let mut bytes = [0u8; 32];
     let mut x = word;

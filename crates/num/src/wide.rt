@@ -21,8 +21,9 @@ struct Division {
     remainder: u64,
 }
 
-// a * b. Of the four products of halves, the two in the middle are added to what the low one
-// carries; no sum of these passes 64 bits. In this form the compiler makes one multiplication of it.
+// a * b. Of the four products of halves, the two in the middle are added one after the other to what the
+// low one carries, and neither sum passes 64 bits; the lower word is worked out apart, modulo 2^64. In
+// this form the compiler makes one multiplication of it.
 pub fn wide_product(a: u64, b: u64) -> Wide
     ensures { λ r. ⌜ value r ≡ a * b ⌝ }
 {

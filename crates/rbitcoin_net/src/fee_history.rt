@@ -1,5 +1,5 @@
-// Per-height fee hurdles for historical fee estimates, after fee_history.rs. Heights are kept up to a byte budget, the
-// newest first. The memory is the caller's: held rows lie together in four lists, sorted by height; the newest hashes in
+// Per-height fee hurdles for historical fee estimates, after fee_history.rs. Heights are kept up to a byte budget; the
+// oldest go first. The memory is the caller's: held rows lie together in four lists, sorted by height; the newest hashes in
 // two more; hurdles and pairs as the pair windows keep them.
 ghost use Rattle.rbitcoin_mempool.specs.Counted.{counted};
 ghost use Rattle.rbitcoin_mempool.specs.Outcome.{verdict};

@@ -11,11 +11,11 @@ unfoldable pub upTo : ℕ → List ℕ → List ℕ
 upTo b [] = []
 upTo b (x ∷ s) = cond (eqb x b) [] (x ∷ upTo b s)
 
--- the place behind the newline that ends the line that starts at a place
+-- the place behind the newline that ends the line that starts at a place: the length and 1 where the last line has none, and the length from the end on
 unfoldable pub afterLine : List ℕ → ℕ → ℕ
 afterLine s at = cond (ltb at (length s)) (at + length (upTo 10 (drop at s)) + 1) (length s)
 
--- n words, each after a space, from a place on
+-- n words from a place on, each after one byte, which is not looked at
 unfoldable pub wordsOf : List ℕ → ℕ → ℕ → List ℕ
 wordsOf s at zero = []
 wordsOf s at (suc n) = hexOf s (at + 1) 16 ∷ wordsOf s (at + 17) n

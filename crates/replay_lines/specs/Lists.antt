@@ -3,7 +3,7 @@ use Prim.Native.Nat.{ℕ, _+_, _%_}
 use mathlib.Core.List.{List, [], _∷_}
 use lib.ListN.{getD, take, drop}
 
--- the list whose length stands at a place
+-- the list whose length stands at a place, as far as there are elements
 abbrev pub listAt : List ℕ → ℕ → List ℕ
 listAt ws at = take (getD ws at 0) (drop (at + 1) ws)
 

@@ -3,7 +3,7 @@ ghost use mathlib.Core.Path.{_≡_};
 ghost use Rattle.replay_lines.specs.Digest.{mixed, mixedAll, turnedOf, raisedOf, hurdleOf};
 use crate::word_at;
 
-// A word added to the digest of those before it turned by a digit.
+// `digest.rotate_left(1) ^ word`.
 pub fn mix(digest: u64, word: u64) -> u64
     ensures { λ r. ⌜ r ≡ mixed digest word ⌝ }
 {
@@ -58,7 +58,7 @@ pub fn digest_u8(start: u64, list: &[u8]) -> u64
     digest
 }
 
-// The next of a generator's words.
+// The next of a generator's words: xorshift by 13, 7 and 17.
 pub fn turned(x: u64) -> u64
     ensures { λ r. ⌜ r ≡ turnedOf x ⌝ }
 {
@@ -67,7 +67,7 @@ pub fn turned(x: u64) -> u64
     b ^ b << 17
 }
 
-// The level, which is word 1; every third is above it by digits of x and word 2.
+// The level, which is word 1; at every third place `level + (x & word 2)`, modulo 2^64.
 fn raised(words: &[u64], place: usize, x: u64) -> u64
     ensures { λ r. ⌜ r ≡ raisedOf (now (words .entry)) place x ⌝ }
 {
@@ -77,7 +77,7 @@ fn raised(words: &[u64], place: usize, x: u64) -> u64
     word_at(words, 1)
 }
 
-// The hurdle with so many after it and itself. Where at most word 3 are left, it is higher by word 4.
+// The hurdle at a place. `left` counts it and those after it; where that is at most word 3, word 4 is added, modulo 2^64.
 pub fn hurdle(words: &[u64], place: usize, left: u64, x: u64) -> u64
     ensures { λ r. ⌜ r ≡ hurdleOf (now (words .entry)) place left x ⌝ }
 {

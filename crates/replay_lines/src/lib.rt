@@ -47,7 +47,7 @@ pub fn line(lines: &[u8], at: usize) -> &[u8]
     before(lines, b'\n', at)
 }
 
-// Where the line after it starts.
+// Where the line after it starts; past the end by 1 where a last line has no newline, and the end from there on.
 pub fn next_line(lines: &[u8], at: usize) -> usize
     ensures { λ r. ⌜ r ≡ afterLine (now (lines .entry)) at ⌝ }
     ensures { λ r. ⌜ length (now (lines .entry)) - r ≤ length (now (lines .entry)) - at - 1 ⌝ }
@@ -110,7 +110,7 @@ fn word(s: &[u8], at: usize) -> u64
     x
 }
 
-// Puts a line's first 512 words over a list, 0 for those that are not there.
+// Puts a line's first 512 words over a list, digits that are not there as 0. What the list has more stays.
 pub fn words(line: &[u8], out: &mut [u64])
     ensures { λ _. ⌜ now (out .exit) ≡ over (wordsOf (now (line .entry)) (length (upTo 32 (now (line .entry)))) 512) (now (out .entry)) ⌝ }
 {
@@ -148,7 +148,7 @@ pub fn part(list: &[u64], from: usize, n: usize) -> &[u64]
     &list[from..end]
 }
 
-// The list whose length stands at a place.
+// The list whose length stands at a place, as far as there are elements.
 pub fn list(words: &[u64], at: usize) -> &[u64]
     ensures { λ r. ⌜ now r ≡ listAt (now (words .entry)) at ⌝ }
 {

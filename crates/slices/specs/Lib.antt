@@ -1,4 +1,4 @@
--- The definitions that the contracts cite.
+-- The definitions that contracts cite, here or in the crates above.
 pub mod Every
 pub mod Lists
 pub mod Search

@@ -87,8 +87,8 @@ fn element(xs: &[u64], k: usize) -> u64
     0
 }
 
-// The quantile; the list is left in ascending order. Refusal 6 of an empty list, then 7 of a confidence that is none;
-// a refusal leaves the list as found.
+// The quantile; the list is left in ascending order. Refusal 6 of an empty list, then 7 of a confidence that is NaN or
+// outside 0 to 1; a refusal leaves the list as found.
 pub fn log_quantile(outcomes: &mut [u64], confidence: f64) -> RateAnswer
     ensures { λ r. ⌜ answer r ≡ logQuantile (now (outcomes .entry)) confidence ⌝ }
     ensures { λ _. ⌜ now (outcomes .exit) ≡ logQuantileLeaves (now (outcomes .entry)) confidence ⌝ }

@@ -156,8 +156,8 @@ pub(crate) fn look_up(depths: &[u32], numbers: &[u64], marks: &[u8], target: u32
 }
 
 // The rate at a target. Refusal 1 where numbers and marks differ in length; no rate where there are
-// no depths or as many rates as depths are not given; then refusal 8 for a mark other than 0 or 1,
-// and 2 for a depth less than the one before it.
+// no depths, or not as many rates as depths; then refusal 8 for a mark other than 0 or 1, and 2
+// for a depth less than the one before it.
 pub fn fee_at_target_sat_kvb(depths: &[u32], rates: &[u64], marks: &[u8], target: u32) -> RateAnswer
     ensures { λ r. ⌜ answer r ≡ feeAtTargetSatKvb (now (depths .entry)) (now (rates .entry)) (now (marks .entry)) target ⌝ }
 {
