@@ -1,19 +1,20 @@
 -- `floorOf` in each of the seven cases that `floor` tells apart, and `ceilOf` by `floorOf`. Assumes nothing.
 use mathlib.Core.Path.{_≡_, refl, sym, ap, _∙_}
 use Prim.Native.Nat.{ℕ, zero, suc, _+_, _*_, _%_, _^_, _≤_, _<_}
-use native.Mathlib.Nat.{mul-one, mul-lt-mul-of-pos-right, mul-le-mul-right, div-add-mod', div-lt-iff-lt-mul, zero-mod, pow-suc, min-eq-left}
+use native.Mathlib.Nat.{mul-one, lt-of-le-of-lt, lt-of-mul-lt-mul-right, div-mul-le-self, lt-div-mul-add, mul-lt-mul-of-pos-right, mul-le-mul-right, div-add-mod', div-lt-iff-lt-mul, zero-mod, pow-suc, min-eq-left}
 use native.Mathlib.Omega.{arith}
 use mathlib.Core.Bool.{Bool, true, false, not, cond, true≢false}
 use lib.IntN.{ℤ, pos, negsuc}
 use lib.Dec.{T, ltb, eqb, lit≤}
 use lib.Pow.{pow-pos}
 use borrow.Author.Tests.{ltb-true, ltb-false, eqb-true, eqb-false, lt-ltb, le-ltb, eq-eqb}
-use lib.Ieee.{Float, nan, inf, fin, binary64, up, down, neg, lt, add, toUnsigned, fits}
+use lib.Ieee.{Float, nan, inf, fin, binary64, up, down, neg, lt, add, sub, toUnsigned, fits}
 use lib.Ieee.Fits.{down-pos}
 use lib.Ieee.Exact.{HasValue}
 use Rattle.num.specs.Float.{ofU64, toU64, cut, isWhole, floorOf, ceilOf}
 use Rattle.num.proofs.Value.{held, above-of-value, below-of-value}
 use Rattle.num.proofs.Whole.{whole-value, whole-next}
+use Rattle.num.proofs.WholeSum.{whole-before, Lands, lands}
 
 -- ---- the order of a positive m * 2 ^ e with its whole part n, and with 2 ^ 52
 not-zero : (r : ℕ) → (r ≡ 0 → ⊥) → 0 < r
@@ -27,6 +28,13 @@ part q d r a e = go (eqb r 0) refl
     go true h = sym (le-ltb (q * d) a (omega (arith, eqb-true r 0 h)))
     go false h = sym (lt-ltb (q * d) a (omega (arith, not-zero r (eqb-false r 0 h))))
 
+scaled : (a b c : ℕ) → 0 < c → ltb (a * c) (b * c) ≡ ltb a b
+scaled a b c C = go (ltb a b) refl
+  where
+    go : (t : Bool) → ltb a b ≡ t → ltb (a * c) (b * c) ≡ t
+    go true h = lt-ltb (a * c) (b * c) (mul-lt-mul-of-pos-right (ltb-true a b h) C)
+    go false h = le-ltb (a * c) (b * c) (mul-le-mul-right c (ltb-false a b h))
+
 -- by any float y that is n
 below-by : (y : Float) (n m : ℕ) (e : ℤ) → HasValue y false n 1 → lt y (fin false m e) ≡ ltb (n * down e) (m * up e)
 unfolding lt
@@ -37,13 +45,16 @@ below-by (fin false k d) n m e v =
     let w : k * up d ≡ n * down d = sym (mul-one (k * up d)) ∙ v .1 in
     let h : k * up d * down e ≡ n * down e * down d = ap (λ (z : ℕ). z * down e) w ∙ omega arith in
     ap (λ (z : ℕ). ltb z (m * up e * down d)) h ∙ scaled (n * down e) (m * up e) (down d) (down-pos d)
-  where
-    scaled : (a b c : ℕ) → 0 < c → ltb (a * c) (b * c) ≡ ltb a b
-    scaled a b c C = go (ltb a b) refl
-      where
-        go : (t : Bool) → ltb a b ≡ t → ltb (a * c) (b * c) ≡ t
-        go true h = lt-ltb (a * c) (b * c) (mul-lt-mul-of-pos-right (ltb-true a b h) C)
-        go false h = le-ltb (a * c) (b * c) (mul-le-mul-right c (ltb-false a b h))
+
+above-by : (y : Float) (n m : ℕ) (e : ℤ) → HasValue y false n 1 → lt (fin false m e) y ≡ ltb (m * up e) (n * down e)
+unfolding lt
+above-by nan n m e v = absurd v
+above-by (inf s) n m e v = absurd v
+above-by (fin true k d) n m e v = absurd (true≢false (v .0))
+above-by (fin false k d) n m e v =
+    let w : k * up d ≡ n * down d = sym (mul-one (k * up d)) ∙ v .1 in
+    let h : k * up d * down e ≡ n * down e * down d = ap (λ (z : ℕ). z * down e) w ∙ omega arith in
+    ap (λ (z : ℕ). ltb (m * up e * down d) z) h ∙ scaled (m * up e) (n * down e) (down d) (down-pos d)
 
 small : (m : ℕ) (e : ℤ) → lt (fin false m e) (fin false 1 (pos 52)) ≡ true → m * up e < 2 ^ 52 * down e
 unfolding lt
@@ -116,6 +127,44 @@ in-range =
       above-of-value (fin false m e) (m * up e) (down e) (refl, refl),
       below-of-value 64 (fin false m e) (m * up e) (down e) (down-pos e) (refl, refl) (omega (arith, small m e b)),
     ))
+
+-- ---- the whole part by a sum: x + 2 ^ 52 - 2 ^ 52, or one less where that is above x
+abbrev landed : Float → Float
+landed x = sub binary64 (add binary64 x limit) limit
+
+next-whole : (m : ℕ) (e : ℤ) → m * up e < suc (cut m e) * down e
+next-whole m e =
+    let h : m * up e < cut m e * down e + down e = lt-div-mul-add (down-pos e) in
+    omega arith
+
+lands-at : (m : ℕ) (e : ℤ) → m * up e < 2 ^ 52 * down e → Lands (fin false m e) (cut m e)
+lands-at m e h =
+    lands (fin false m e) (m * up e) (down e) (cut m e) (down-pos e) (refl, refl) (div-mul-le-self (m * up e) (down e))
+    (next-whole m e) (cut-small m e h)
+
+pub sum-above : (x : Float) → lt (fin false 0 (pos 0)) x ≡ true → lt x limit ≡ true → lt x (landed x) ≡ true → sub binary64 (landed x) (fin false 1 (pos 0)) ≡ part-of x
+sum-above =
+    above (λ (x : Float). lt x limit ≡ true → lt x (landed x) ≡ true → sub binary64 (landed x) (fin false 1 (pos 0)) ≡ part-of x) (λ b. absurd (true≢false (sym (unfold lt in b))))
+    (λ m e b t.
+    let l = small m e b in
+    let L = lands-at m e l in
+    let n = cut m e in
+    let c : ltb (m * up e) (L .j * down e) ≡ true = sym (above-by (ofU64 (L .j)) (L .j) m e (whole-value (L .j) (omega (arith, L .most, cut-small m e l)))) ∙ sym (ap (λ (y : Float). lt (fin false m e) y) (L .is)) ∙ t in
+    let g : n < L .j = lt-of-mul-lt-mul-right (down e) {m = n} {n = L .j} (lt-of-le-of-lt (div-mul-le-self (m * up e) (down e)) (ltb-true (m * up e) (L .j * down e) c)) in
+    let q : L .j ≡ suc n = omega (arith, g, L .most) in
+    ap (λ (y : Float). sub binary64 y (fin false 1 (pos 0))) (L .is ∙ ap ofU64 q) ∙ whole-before n (omega (arith, cut-small m e l)) ∙ ap ofU64 (sym (cast m e l)))
+
+pub sum-within : (x : Float) → lt (fin false 0 (pos 0)) x ≡ true → lt x limit ≡ true → lt x (landed x) ≡ false → landed x ≡ part-of x
+sum-within =
+    above (λ (x : Float). lt x limit ≡ true → lt x (landed x) ≡ false → landed x ≡ part-of x) (λ b. absurd (true≢false (sym (unfold lt in b))))
+    (λ m e b t.
+    let l = small m e b in
+    let L = lands-at m e l in
+    let n = cut m e in
+    let c : ltb (m * up e) (L .j * down e) ≡ false = sym (above-by (ofU64 (L .j)) (L .j) m e (whole-value (L .j) (omega (arith, L .most, cut-small m e l)))) ∙ sym (ap (λ (y : Float). lt (fin false m e) y) (L .is)) ∙ t in
+    let g : L .j < suc n = lt-of-mul-lt-mul-right (down e) {m = L .j} {n = suc n} (lt-of-le-of-lt (ltb-false (m * up e) (L .j * down e) c) (next-whole m e)) in
+    let q : L .j ≡ n = omega (arith, g, L .least) in
+    L .is ∙ ap ofU64 (q ∙ sym (cast m e l)))
 
 pub positive-fraction : (x : Float) → lt (fin false 0 (pos 0)) x ≡ true → lt x limit ≡ true → lt (part-of x) x ≡ true → part-of x ≡ floorOf x
 unfolding floorOf

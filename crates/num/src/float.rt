@@ -84,13 +84,18 @@ pub fn clamp(x: f64, lo: f64, hi: f64) -> f64
     clamp_below(x, hi)
 }
 
-// x without its fraction, for x above 0 and below 2^52.
+// x without its fraction, for x above 0 and below 2^52. The sum of x and 2^52 is rounded to a whole number, which lies at
+// most a half from it; where it lies above, one less is the whole part.
 fn whole_below(x: f64) -> f64
     requires { ⌜ T (lt (fin false 0 (pos 0)) x) ⌝ }
     requires { ⌜ T (lt x (fin false 1 (pos 52))) ⌝ }
     ensures { λ r. ⌜ r ≡ ofU64 (toU64 x) ⌝ }
 {
-    std::num::nearest_u64_to_f64(std::num::truncating_f64_to_u64(x))
+    let k = x + 4503599627370496.0 - 4503599627370496.0;
+    if x < k {
+        return k - 1.0;
+    }
+    k
 }
 
 // Rust's `x.floor()`. From 2^52 on an `f64` is whole.
