@@ -1,16 +1,18 @@
 -- `floorOf` in each of the seven cases that `floor` tells apart, and `ceilOf` by `floorOf`. Assumes nothing.
-use mathlib.Core.Path.{_≡_, refl, sym, ap, _∙_}
+use mathlib.Core.Path.{_≡_, refl, sym, ap, _∙_, subst}
 use Prim.Native.Nat.{ℕ, zero, suc, _+_, _*_, _%_, _^_, _≤_, _<_}
 use native.Mathlib.Nat.{mul-one, lt-of-le-of-lt, lt-of-mul-lt-mul-right, div-mul-le-self, lt-div-mul-add, mul-lt-mul-of-pos-right, mul-le-mul-right, div-add-mod', div-lt-iff-lt-mul, zero-mod, pow-suc, min-eq-left}
 use native.Mathlib.Omega.{arith}
 use mathlib.Core.Bool.{Bool, true, false, not, cond, true≢false}
 use lib.IntN.{ℤ, pos, negsuc}
-use lib.Dec.{T, ltb, eqb, lit≤}
+use lib.Dec.{T, ltb, eqb, lit≤, le→leb}
 use lib.Pow.{pow-pos}
 use borrow.Author.Tests.{ltb-true, ltb-false, eqb-true, eqb-false, lt-ltb, le-ltb, eq-eqb}
-use lib.Ieee.{Float, nan, inf, fin, binary64, up, down, neg, lt, add, sub, toUnsigned, fits}
+use lib.Ieee.{Float, nan, inf, fin, binary64, up, down, neg, lt, add, sub, toUnsigned, inUnsigned, inFloat, fits}
 use lib.Ieee.Fits.{down-pos}
 use lib.Ieee.Exact.{HasValue}
+use lib.Ieee.Back.{unsigned-back}
+use mir.Val.{boolByte}
 use Rattle.num.specs.Float.{ofU64, toU64, cut, isWhole, floorOf, ceilOf}
 use Rattle.num.proofs.Value.{held, above-of-value, below-of-value}
 use Rattle.num.proofs.Whole.{whole-value, whole-next}
@@ -142,29 +144,53 @@ lands-at m e h =
     lands (fin false m e) (m * up e) (down e) (cut m e) (down-pos e) (refl, refl) (div-mul-le-self (m * up e) (down e))
     (next-whole m e) (cut-small m e h)
 
-pub sum-above : (x : Float) → lt (fin false 0 (pos 0)) x ≡ true → lt x limit ≡ true → lt x (landed x) ≡ true → sub binary64 (landed x) (fin false 1 (pos 0)) ≡ part-of x
-sum-above =
-    above (λ (x : Float). lt x limit ≡ true → lt x (landed x) ≡ true → sub binary64 (landed x) (fin false 1 (pos 0)) ≡ part-of x) (λ b. absurd (true≢false (sym (unfold lt in b))))
-    (λ m e b t.
+-- x + 2 ^ 52 - 2 ^ 52 is the whole part of x, and one more where it is above x
+pub landing : (x : Float) → lt (fin false 0 (pos 0)) x ≡ true → lt x limit ≡ true → (landed x ≡ ofU64 (toU64 x + boolByte (lt x (landed x)))) × (toU64 x < 2 ^ 52)
+landing =
+    above (λ (x : Float). lt x limit ≡ true → (landed x ≡ ofU64 (toU64 x + boolByte (lt x (landed x)))) × (toU64 x < 2 ^ 52)) (λ b. absurd (true≢false (sym (unfold lt in b))))
+    (λ m e b.
+    let x = fin false m e in
     let l = small m e b in
     let L = lands-at m e l in
-    let n = cut m e in
-    let c : ltb (m * up e) (L .j * down e) ≡ true = sym (above-by (ofU64 (L .j)) (L .j) m e (whole-value (L .j) (omega (arith, L .most, cut-small m e l)))) ∙ sym (ap (λ (y : Float). lt (fin false m e) y) (L .is)) ∙ t in
-    let g : n < L .j = lt-of-mul-lt-mul-right (down e) {m = n} {n = L .j} (lt-of-le-of-lt (div-mul-le-self (m * up e) (down e)) (ltb-true (m * up e) (L .j * down e) c)) in
-    let q : L .j ≡ suc n = omega (arith, g, L .most) in
-    ap (λ (y : Float). sub binary64 y (fin false 1 (pos 0))) (L .is ∙ ap ofU64 q) ∙ whole-before n (omega (arith, cut-small m e l)) ∙ ap ofU64 (sym (cast m e l)))
+    let t = lt x (landed x) in
+    let c : ltb (m * up e) (L .j * down e) ≡ t =
+    sym (above-by (ofU64 (L .j)) (L .j) m e (whole-value (L .j) (omega (arith, L .most, cut-small m e l)))) ∙ sym (ap (lt x) (L .is)) in
+    (L .is ∙ ap ofU64 (beside m e (L .j) (L .least) (L .most) t c ∙ ap (λ (z : ℕ). z + boolByte t) (sym (cast m e l))), rw (cast m e l) (cut-small m e l)))
+  where
+    beside : (m : ℕ) (e : ℤ) (j : ℕ) → cut m e ≤ j → j ≤ suc (cut m e) → (t : Bool) → ltb (m * up e) (j * down e) ≡ t → j ≡ cut m e + boolByte t
+    beside m e j lo hi true h =
+        let g : cut m e < j = lt-of-mul-lt-mul-right (down e) {m = cut m e} {n = j} (lt-of-le-of-lt (div-mul-le-self (m * up e) (down e)) (ltb-true (m * up e) (j * down e) h)) in
+        omega (arith, g)
+    beside m e j lo hi false h =
+        let g : j < suc (cut m e) = lt-of-mul-lt-mul-right (down e) {m = j} {n = suc (cut m e)} (lt-of-le-of-lt (ltb-false (m * up e) (j * down e) h) (next-whole m e)) in
+        omega (arith, g)
 
-pub sum-within : (x : Float) → lt (fin false 0 (pos 0)) x ≡ true → lt x limit ≡ true → lt x (landed x) ≡ false → landed x ≡ part-of x
-sum-within =
-    above (λ (x : Float). lt x limit ≡ true → lt x (landed x) ≡ false → landed x ≡ part-of x) (λ b. absurd (true≢false (sym (unfold lt in b))))
-    (λ m e b t.
-    let l = small m e b in
-    let L = lands-at m e l in
-    let n = cut m e in
-    let c : ltb (m * up e) (L .j * down e) ≡ false = sym (above-by (ofU64 (L .j)) (L .j) m e (whole-value (L .j) (omega (arith, L .most, cut-small m e l)))) ∙ sym (ap (λ (y : Float). lt (fin false m e) y) (L .is)) ∙ t in
-    let g : L .j < suc n = lt-of-mul-lt-mul-right (down e) {m = L .j} {n = suc n} (lt-of-le-of-lt (ltb-false (m * up e) (L .j * down e) c) (next-whole m e)) in
-    let q : L .j ≡ n = omega (arith, g, L .least) in
-    L .is ∙ ap ofU64 (q ∙ sym (cast m e l)))
+pub landed-above : (x : Float) → lt (fin false 0 (pos 0)) x ≡ true → lt x limit ≡ true → lt x (landed x) ≡ true → sub binary64 (landed x) (fin false 1 (pos 0)) ≡ part-of x
+landed-above x a b t =
+    let h = landing x a b in
+    ap (λ (y : Float). sub binary64 y (fin false 1 (pos 0))) (h .0 ∙ ap (λ (z : Bool). ofU64 (toU64 x + boolByte z)) t ∙ ap ofU64 (next (toU64 x))) ∙ whole-before (toU64 x) (omega (arith, h .1))
+  where
+    next : (n : ℕ) → n + 1 ≡ suc n
+    next n = omega arith
+
+pub landed-within : (x : Float) → lt (fin false 0 (pos 0)) x ≡ true → lt x limit ≡ true → lt x (landed x) ≡ false → landed x ≡ part-of x
+landed-within x a b t = landing x a b .0 ∙ ap (λ (z : Bool). ofU64 (toU64 x + boolByte z)) t ∙ ap ofU64 (same (toU64 x))
+  where
+    same : (n : ℕ) → n + 0 ≡ n
+    same n = omega arith
+
+-- the same as a u64: the cast loses nothing
+pub landed-cast : (x : Float) → lt (fin false 0 (pos 0)) x ≡ true → lt x limit ≡ true → T (inUnsigned binary64 64 (landed x)) × (toU64 (landed x) ≡ toU64 x + boolByte (lt x (landed x)))
+unfolding inFloat
+landed-cast x a b =
+    let h = landing x a b in
+    let j = toU64 x + boolByte (lt x (landed x)) in
+    let r = unsigned-back binary64 64 j (le→leb j (2 ^ 53) (omega (arith, bit (lt x (landed x)), h .1))) (omega (arith, bit (lt x (landed x)), h .1)) in
+    (subst (λ (y : Float). T (inUnsigned binary64 64 y)) (sym (h .0)) (r .0), ap toU64 (h .0) ∙ r .1)
+  where
+    bit : (t : Bool) → boolByte t ≤ 1
+    bit true = lit≤ tt
+    bit false = lit≤ tt
 
 pub positive-fraction : (x : Float) → lt (fin false 0 (pos 0)) x ≡ true → lt x limit ≡ true → lt (part-of x) x ≡ true → part-of x ≡ floorOf x
 unfolding floorOf

@@ -49,11 +49,11 @@ round-whole-near a c C lo hi =
     let d : drop 53 (a * U) c ≡ low binary64 = dropped 52 (low binary64) a c C lo hi in
     let w = closest a c in
     let g : grid binary64 a c ≡ w * U =
-        ap (λ (z : ℕ). closest (a * U) (c * 2 ^ z) * 2 ^ z) d
-        ∙ ap (λ (z : ℕ). z * U) (closest-same (a * U) (c * U) a c (mul-pos C (pow-pos (low binary64))) C (mul-right-comm a U c ∙ mul-assoc a c U)) in
+    ap (λ (z : ℕ). closest (a * U) (c * 2 ^ z) * 2 ^ z) d
+    ∙ ap (λ (z : ℕ). z * U) (closest-same (a * U) (c * U) a c (mul-pos C (pow-pos (low binary64))) C (mul-right-comm a U c ∙ mul-assoc a c U)) in
     let t : w ≤ 2 ^ 53 = under-bound w a c (2 ^ 53) C (closest-half a c C .over) (omega arith) in
     let o : w * U < 2 ^ (low binary64 + suc (emax binary64)) =
-        lt-of-lt-of-le (mul-lt-mul-of-pos-right (under-54 w t) (pow-pos (low binary64))) (le-trans (le-of-eq (sym (pow-add 2 54 (low binary64)))) (pow-mono {i = 54 + low binary64} {j = low binary64 + 1024} (lit≤ tt))) in
+    lt-of-lt-of-le (mul-lt-mul-of-pos-right (under-54 w t) (pow-pos (low binary64))) (le-trans (le-of-eq (sym (pow-add 2 54 (low binary64)))) (pow-mono {i = 54 + low binary64} {j = low binary64 + 1024} (lit≤ tt))) in
     in-ones (round binary64 false a c) w U (pow-pos (low binary64))
     (subst (λ (z : ℕ). HasValue (round binary64 false a c) false z U) g (round-val binary64 a c (subst (λ (z : ℕ). z < 2 ^ (low binary64 + suc (emax binary64))) (sym g) o)))
 

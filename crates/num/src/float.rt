@@ -15,15 +15,29 @@ pub fn from_u64(n: u64) -> f64
     std::num::nearest_u64_to_f64(n)
 }
 
+// The whole part of x, for x above 0 and below 2^52. Adding 2^52 rounds x to a whole number at most a half away; where
+// that is above x, one less is the whole part.
+fn part_below(x: f64) -> u64
+    requires { ⌜ T (lt (fin false 0 (pos 0)) x) ⌝ }
+    requires { ⌜ T (lt x (fin false 1 (pos 52))) ⌝ }
+    ensures { λ r. ⌜ r ≡ toU64 x ⌝ }
+{
+    let k = x + 4503599627370496.0 - 4503599627370496.0;
+    k as u64 - (x < k) as u64
+}
+
 // Rust's `x as u64`.
 pub fn to_u64(x: f64) -> u64
     ensures { λ r. ⌜ r ≡ toU64 x ⌝ }
 {
-    if x >= 18446744073709551616.0 {
-        return u64::MAX;
-    }
     if x > 0.0 {
-        return std::num::truncating_f64_to_u64(x);
+        if x < 4503599627370496.0 {
+            return part_below(x);
+        }
+        if x < 18446744073709551616.0 {
+            return std::num::truncating_f64_to_u64(x);
+        }
+        return u64::MAX;
     }
     0
 }
@@ -84,8 +98,7 @@ pub fn clamp(x: f64, lo: f64, hi: f64) -> f64
     clamp_below(x, hi)
 }
 
-// x without its fraction, for x above 0 and below 2^52. The sum of x and 2^52 is rounded to a whole number, which lies at
-// most a half from it; where it lies above, one less is the whole part.
+// The same as a float.
 fn whole_below(x: f64) -> f64
     requires { ⌜ T (lt (fin false 0 (pos 0)) x) ⌝ }
     requires { ⌜ T (lt x (fin false 1 (pos 52))) ⌝ }
