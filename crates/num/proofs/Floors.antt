@@ -264,3 +264,24 @@ ceil-floor (inf true) = refl
 ceil-floor (inf false) = refl
 ceil-floor (fin true m e) = neg-cond (isWhole m e) (fin false m e) (ofU64 (cut m e))
 ceil-floor (fin false m e) = neg-cond (isWhole m e) (fin true m e) (neg (ofU64 (cut m e + 1))) ∙ ap (λ (y : Float). cond (isWhole m e) (fin false m e) y) (neg-neg (ofU64 (cut m e + 1)))
+
+-- ---- the ceiling above 0
+pub ceil-fraction : (x : Float) → lt (fin false 0 (pos 0)) x ≡ true → lt x limit ≡ true → lt (part-of x) x ≡ true → add binary64 (part-of x) (fin false 1 (pos 0)) ≡ ceilOf x
+unfolding ceilOf
+ceil-fraction =
+    above (λ (x : Float). lt x limit ≡ true → lt (part-of x) x ≡ true → add binary64 (part-of x) (fin false 1 (pos 0)) ≡ ceilOf x) (λ b. absurd (true≢false (sym (unfold lt in b))))
+    (λ m e b w.
+    let l = small m e b in
+    rw (flip (isWhole m e) true (sym (test m e l) ∙ w), cast m e l, whole-next (cut m e) (omega (arith, cut-small m e l))))
+
+pub ceil-whole : (x : Float) → lt (fin false 0 (pos 0)) x ≡ true → lt x limit ≡ true → lt (part-of x) x ≡ false → x ≡ ceilOf x
+unfolding ceilOf
+ceil-whole =
+    above (λ (x : Float). lt x limit ≡ true → lt (part-of x) x ≡ false → x ≡ ceilOf x) (λ b. absurd (true≢false (sym (unfold lt in b))))
+    (λ m e b w. rw (flip (isWhole m e) false (sym (test m e (small m e b)) ∙ w)))
+
+pub ceil-large : (x : Float) → lt (fin false 0 (pos 0)) x ≡ true → T (fits binary64 x) → lt x limit ≡ false → x ≡ ceilOf x
+unfolding ceilOf
+ceil-large =
+    above (λ (x : Float). T (fits binary64 x) → lt x limit ≡ false → x ≡ ceilOf x) (λ f b. refl)
+    (λ m e f b. rw (large-whole false m e f (large m e b)))

@@ -139,6 +139,15 @@ pub fn floor(x: f64) -> f64
 pub fn ceil(x: f64) -> f64
     ensures { λ r. ⌜ r ≡ ceilOf x ⌝ }
 {
+    if x > 0.0 {
+        if x < 4503599627370496.0 {
+            let w = whole_below(x);
+            if w < x {
+                return w + 1.0;
+            }
+        }
+        return x;
+    }
     -floor(-x)
 }
 
