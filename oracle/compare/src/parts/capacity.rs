@@ -2,7 +2,7 @@
 //! of fee_est.rs. No stand-in concerns them, so that a difference with either Rust fails the run.
 
 use super::Part;
-use crate::bench::{Bench, INPUTS};
+use crate::bench::{Bench, INPUTS, row};
 use crate::check::{Function, Job, Plan};
 use crate::lent::{Lent, RateFields, lend};
 use crate::replay::Replay;
@@ -100,7 +100,7 @@ mod rattle {
 
 /// The Rust as it is timed: never inlined, so that both sides pay for a call.
 mod rust {
-    use super::patched;
+    use super::{Edges, FEE_BUCKET_EDGES_SAT_PER_KVB, patched};
     use std::cell::Cell;
 
     #[inline(never)]
@@ -111,6 +111,52 @@ mod rust {
     #[inline(never)]
     pub extern "C" fn first_bucket_above(rate: u64) -> usize {
         patched::first_bucket_above(rate)
+    }
+
+    #[inline(never)]
+    pub extern "C" fn bucket_count() -> usize {
+        patched::bucket_count()
+    }
+
+    #[inline(never)]
+    pub extern "C" fn capacity_wu(n: u32) -> u64 {
+        patched::capacity_wu(n)
+    }
+
+    #[inline(never)]
+    pub extern "C" fn horizon_secs(n: u32) -> u64 {
+        patched::horizon_secs(n)
+    }
+
+    #[inline(never)]
+    pub extern "C" fn inflow_horizon_secs(n: u32) -> u64 {
+        patched::inflow_horizon_secs(n)
+    }
+
+    #[inline(never)]
+    pub extern "C" fn effective_capacity_wu(n: u32) -> u64 {
+        patched::effective_capacity_wu(n)
+    }
+
+    #[inline(never)]
+    pub extern "C" fn inclusion_confidence(n: u32) -> f64 {
+        patched::inclusion_confidence(n)
+    }
+
+    /// The Rust works the edges out while it is compiled, and reads the constant.
+    #[inline(never)]
+    pub extern "C" fn flow_bucket_edges(out: &mut Edges) {
+        *out = FEE_BUCKET_EDGES_SAT_PER_KVB;
+    }
+
+    #[inline(never)]
+    pub fn default_candidate_rates() -> Vec<u64> {
+        patched::default_candidate_rates()
+    }
+
+    #[inline(never)]
+    pub fn fine_candidate_rates() -> Vec<u64> {
+        patched::fine_candidate_rates()
     }
 
     #[inline(never)]
@@ -729,10 +775,53 @@ fn bench_inputs<I>(count: usize, draw: fn(&mut Rng) -> I) -> Vec<I> {
     (0..count).map(|_| draw(&mut rng)).collect()
 }
 
-/// Both sides are pointers of one type, so that the same machine code calls them.
-fn side(function: extern "C" fn(u64) -> usize) -> impl Fn(&u64) -> usize {
-    let function = black_box(function);
-    move |&rate| function(rate)
+/// How many blocks a quoter asks for.
+fn draw_asked_blocks(rng: &mut Rng) -> u32 {
+    1 + rng.below(1_100) as u32
+}
+
+fn number_rows(bench: &mut Bench) {
+    let rates = bench_inputs(INPUTS, draw_market_rate);
+    row!(bench, &rates, bucket_index(rate));
+    row!(bench, &rates, first_bucket_above(rate));
+    row!(bench, &[(); INPUTS], bucket_count());
+    let blocks = bench_inputs(INPUTS, draw_asked_blocks);
+    row!(bench, &blocks, capacity_wu(n));
+    row!(bench, &blocks, horizon_secs(n));
+    row!(bench, &blocks, inflow_horizon_secs(n));
+    row!(bench, &blocks, effective_capacity_wu(n));
+    row!(bench, &blocks, inclusion_confidence(n));
+}
+
+fn table_rows(bench: &mut Bench) {
+    const CALLS: [(); 1_000] = [(); 1_000];
+    let side = |function: extern "C" fn(&mut Edges)| {
+        let function = black_box(function);
+        let mut out = [0; FLOW_BUCKET_EDGE_COUNT];
+        move |&(): &()| {
+            function(&mut out);
+            black_box(&out)[0]
+        }
+    };
+    bench.row(
+        "flow_bucket_edges",
+        &CALLS,
+        side(rattle::flow_bucket_edges),
+        side(rust::flow_bucket_edges),
+    );
+    // The Rust allocates its list, and the Rattle writes into a lent array.
+    bench.row(
+        "default_candidate_rates",
+        &CALLS,
+        side(rattle::default_candidate_rates),
+        |_| rust::default_candidate_rates(),
+    );
+    bench.row(
+        "fine_candidate_rates",
+        &CALLS,
+        side(rattle::fine_candidate_rates),
+        |_| rust::fine_candidate_rates(),
+    );
 }
 
 pub struct Capacity;
@@ -759,19 +848,8 @@ impl Part for Capacity {
     }
 
     fn bench(&self, bench: &mut Bench) {
-        let rates = bench_inputs(INPUTS, draw_market_rate);
-        bench.row(
-            "bucket_index",
-            &rates,
-            side(rattle::bucket_index),
-            side(rust::bucket_index),
-        );
-        bench.row(
-            "first_bucket_above",
-            &rates,
-            side(rattle::first_bucket_above),
-            side(rust::first_bucket_above),
-        );
+        number_rows(bench);
+        table_rows(bench);
         // The Rust allocates its sums, and the Rattle writes into a lent array.
         let mut sums = [0; SUFFIX_COUNT];
         bench.row(
