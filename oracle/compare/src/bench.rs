@@ -199,6 +199,19 @@ macro_rules! row {
     ($bench:ident, $inputs:expr, $name:ident $args:tt) => {
         $crate::bench::row!($bench, $inputs, stringify!($name), $name $args)
     };
+    // The other function is the Rust's own. It has a type of its own, so the loop is another one; but a
+    // function of the Rattle's type around it would make the Rust pay for two calls.
+    ($bench:ident, $inputs:expr, $name:ident($($arg:ident),*), $rust:path) => {{
+        let ours: extern "C" fn($($crate::bench::any_type!($arg)),*) -> _ = rattle::$name;
+        let theirs: fn($($crate::bench::any_type!($arg)),*) -> _ = $rust;
+        let (ours, theirs) = std::hint::black_box((ours, theirs));
+        $bench.row(
+            stringify!($name),
+            $inputs,
+            move |&$crate::bench::input!($($arg),*): &_| ours($($arg),*),
+            move |&$crate::bench::input!($($arg),*): &_| theirs($($arg),*),
+        );
+    }};
     ($bench:ident, $inputs:expr, $row:expr, $name:ident($($arg:ident),*)) => {{
         let side = |function: extern "C" fn($($crate::bench::any_type!($arg)),*) -> _| {
             let function = std::hint::black_box(function);

@@ -103,60 +103,10 @@ mod rust {
     use super::{Edges, FEE_BUCKET_EDGES_SAT_PER_KVB, patched};
     use std::cell::Cell;
 
-    #[inline(never)]
-    pub extern "C" fn bucket_index(rate: u64) -> usize {
-        patched::bucket_index(rate)
-    }
-
-    #[inline(never)]
-    pub extern "C" fn first_bucket_above(rate: u64) -> usize {
-        patched::first_bucket_above(rate)
-    }
-
-    #[inline(never)]
-    pub extern "C" fn bucket_count() -> usize {
-        patched::bucket_count()
-    }
-
-    #[inline(never)]
-    pub extern "C" fn capacity_wu(n: u32) -> u64 {
-        patched::capacity_wu(n)
-    }
-
-    #[inline(never)]
-    pub extern "C" fn horizon_secs(n: u32) -> u64 {
-        patched::horizon_secs(n)
-    }
-
-    #[inline(never)]
-    pub extern "C" fn inflow_horizon_secs(n: u32) -> u64 {
-        patched::inflow_horizon_secs(n)
-    }
-
-    #[inline(never)]
-    pub extern "C" fn effective_capacity_wu(n: u32) -> u64 {
-        patched::effective_capacity_wu(n)
-    }
-
-    #[inline(never)]
-    pub extern "C" fn inclusion_confidence(n: u32) -> f64 {
-        patched::inclusion_confidence(n)
-    }
-
     /// The Rust works the edges out while it is compiled, and reads the constant.
     #[inline(never)]
     pub extern "C" fn flow_bucket_edges(out: &mut Edges) {
         *out = FEE_BUCKET_EDGES_SAT_PER_KVB;
-    }
-
-    #[inline(never)]
-    pub fn default_candidate_rates() -> Vec<u64> {
-        patched::default_candidate_rates()
-    }
-
-    #[inline(never)]
-    pub fn fine_candidate_rates() -> Vec<u64> {
-        patched::fine_candidate_rates()
     }
 
     #[inline(never)]
@@ -782,15 +732,35 @@ fn draw_asked_blocks(rng: &mut Rng) -> u32 {
 
 fn number_rows(bench: &mut Bench) {
     let rates = bench_inputs(INPUTS, draw_market_rate);
-    row!(bench, &rates, bucket_index(rate));
-    row!(bench, &rates, first_bucket_above(rate));
-    row!(bench, &[(); INPUTS], bucket_count());
+    row!(bench, &rates, bucket_index(rate), patched::bucket_index);
+    row!(
+        bench,
+        &rates,
+        first_bucket_above(rate),
+        patched::first_bucket_above
+    );
+    row!(bench, &[(); INPUTS], bucket_count(), patched::bucket_count);
     let blocks = bench_inputs(INPUTS, draw_asked_blocks);
-    row!(bench, &blocks, capacity_wu(n));
-    row!(bench, &blocks, horizon_secs(n));
-    row!(bench, &blocks, inflow_horizon_secs(n));
-    row!(bench, &blocks, effective_capacity_wu(n));
-    row!(bench, &blocks, inclusion_confidence(n));
+    row!(bench, &blocks, capacity_wu(n), patched::capacity_wu);
+    row!(bench, &blocks, horizon_secs(n), patched::horizon_secs);
+    row!(
+        bench,
+        &blocks,
+        inflow_horizon_secs(n),
+        patched::inflow_horizon_secs
+    );
+    row!(
+        bench,
+        &blocks,
+        effective_capacity_wu(n),
+        patched::effective_capacity_wu
+    );
+    row!(
+        bench,
+        &blocks,
+        inclusion_confidence(n),
+        patched::inclusion_confidence
+    );
 }
 
 fn table_rows(bench: &mut Bench) {
@@ -810,17 +780,21 @@ fn table_rows(bench: &mut Bench) {
         side(rust::flow_bucket_edges),
     );
     // The Rust allocates its list, and the Rattle writes into a lent array.
+    let list = |function: fn() -> Vec<u64>| {
+        let function = black_box(function);
+        move |&(): &()| function()
+    };
     bench.row(
         "default_candidate_rates",
         &CALLS,
         side(rattle::default_candidate_rates),
-        |_| rust::default_candidate_rates(),
+        list(patched::default_candidate_rates),
     );
     bench.row(
         "fine_candidate_rates",
         &CALLS,
         side(rattle::fine_candidate_rates),
-        |_| rust::fine_candidate_rates(),
+        list(patched::fine_candidate_rates),
     );
 }
 

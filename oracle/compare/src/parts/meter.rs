@@ -59,7 +59,6 @@ mod rattle {
 
 /// The Rust as it is timed: never inlined, so that both sides pay for a call.
 mod rust {
-    use super::{Instant, Patched};
     use patched_mempool::fee_flow;
 
     #[inline(never)]
@@ -70,11 +69,6 @@ mod rust {
     #[inline(never)]
     pub extern "C" fn flow_full_wu() -> f64 {
         fee_flow::flow_full_wu()
-    }
-
-    #[inline(never)]
-    pub fn fee_flow_meter(now: Instant) -> Patched {
-        Patched::new(now)
     }
 }
 
@@ -753,6 +747,7 @@ fn opening_rows(bench: &mut Bench) {
     row!(bench, &[(); INPUTS], flow_full_wu());
     let mut rng = Rng::new(1, "bench meter opening");
     let clocks: Vec<u64> = (0..INPUTS).map(|_| rng.of_bits(60)).collect();
+    let opened = black_box(Patched::new as fn(Instant) -> Patched);
     let instants: Vec<Instant> = clocks.iter().map(|clock| at(*clock)).collect();
     bench.row_of_forms(
         "fee_flow_meter",
@@ -761,7 +756,7 @@ fn opening_rows(bench: &mut Bench) {
             black_box(&meter).last
         }),
         (&instants, |&now| {
-            let meter = rust::fee_flow_meter(now);
+            let meter = opened(now);
             black_box(&meter).last
         }),
     );

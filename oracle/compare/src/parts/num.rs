@@ -12,6 +12,7 @@ use crate::values::{
 use crate::words::{Input, Word, Words, of_rank, rank};
 use patched_mempool::fee_analog::ANALOG_BAND;
 use patched_mempool::fee_est::BLEND_N0;
+use patched_mempool::stand_in;
 use std::f64::consts::{LN_2, SQRT_2};
 
 /// A u128 as two words.
@@ -78,8 +79,7 @@ mod rattle {
 
 /// The Rust behind the same calls: never inlined, so that both sides of a timing pay for a call.
 mod rust {
-    use super::{ANALOG_BAND, Wide, WideDivision};
-    use patched_mempool::stand_in;
+    use super::{ANALOG_BAND, Wide, WideDivision, stand_in};
 
     #[inline(never)]
     pub extern "C" fn saturating_add(a: u64, b: u64) -> u64 {
@@ -655,7 +655,7 @@ impl Part for Num {
         row!(bench, &rates, floor(x));
         row!(bench, &rates, ceil(x));
         let weights = bench_inputs(|rng| blend_argument(1 + rng.below(4249) as u32));
-        row!(bench, &weights, exp(x));
+        row!(bench, &weights, exp(x), stand_in::exp);
         let hurdles = bench_inputs(|rng| 100 + rng.below(1_000_000));
         row!(bench, &hurdles, ln(n));
         row!(bench, &[(); INPUTS], ln_1_25());

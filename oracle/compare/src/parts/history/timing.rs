@@ -20,11 +20,6 @@ mod rust {
     use std::collections::HashMap;
 
     #[inline(never)]
-    pub fn new(budget: u64, targets: &[u32]) -> Patched {
-        Patched::new(budget, targets)
-    }
-
-    #[inline(never)]
     pub fn insert(history: &mut Patched, height: u32, block: HistoricalFeeBlock, hash: [u8; 32]) {
         history.insert(height, block, Some(hash));
     }
@@ -191,16 +186,17 @@ fn insert_rows(bench: &mut Bench) {
 fn opening_row(bench: &mut Bench) {
     let mut memory = Memory::new(BOX_TARGETS.len(), BOX_CAPACITY as usize);
     let (mut targets, mut lent) = (BOX_TARGETS, all(&mut memory));
+    let opened = black_box(Patched::new as fn(u64, &[u32]) -> Patched);
     bench.row(
         "history_new_11_targets",
         &[(); INPUTS],
         |_| {
-            let opened = rattle::new(1 << 30, &mut targets, BOX_CAPACITY as usize, &mut lent);
-            black_box(&opened).refusal
+            let history = rattle::new(1 << 30, &mut targets, BOX_CAPACITY as usize, &mut lent);
+            black_box(&history).refusal
         },
         |_| {
-            let opened = rust::new(1 << 30, black_box(&BOX_TARGETS));
-            black_box(&opened).budget
+            let history = opened(1 << 30, &BOX_TARGETS);
+            black_box(&history).budget
         },
     );
 }
@@ -229,6 +225,7 @@ fn cut_rows(bench: &mut Bench) {
     let (start, mut lent) = (port.state, all(&mut port.memory));
     let mut state = start;
     let tip = FIRST + BOX_HURDLES as u32 - 1;
+    let cut = black_box(Patched::truncate_above as fn(&mut Patched, u32));
     let each: Vec<u32> = (1..=100).map(|cut| tip - cut).collect();
     for (name, heights) in [
         ("truncate_above", each),
@@ -245,7 +242,7 @@ fn cut_rows(bench: &mut Bench) {
             (
                 &mut history,
                 |history| put_back(history, &kept),
-                |history, height| rust::truncate_above(history, *height),
+                |history, height| cut(history, *height),
             ),
         );
     }

@@ -5,6 +5,7 @@ use super::rattle;
 use super::sides::{Call, Opening, Patched, Port, Side};
 use crate::bench::{Bench, INPUTS, row};
 use crate::rng::Rng;
+use patched_mempool::fee_analog as patched;
 use std::hint::black_box;
 
 /// The Rust as it is timed: never inlined, so that both sides pay for a call.
@@ -20,26 +21,6 @@ mod rust {
     #[inline(never)]
     pub extern "C" fn historical_confidence_far() -> f64 {
         patched::HISTORICAL_CONFIDENCE_FAR
-    }
-
-    #[inline(never)]
-    pub extern "C" fn analog_lookback(n: u32) -> usize {
-        patched::analog_lookback(n)
-    }
-
-    #[inline(never)]
-    pub extern "C" fn ln_rate(rate: u64) -> f64 {
-        patched::ln_rate(rate)
-    }
-
-    #[inline(never)]
-    pub fn new(targets: &[u32]) -> Patched {
-        Patched::new(targets)
-    }
-
-    #[inline(never)]
-    pub fn pairs(windows: &Patched, n: u32) -> usize {
-        windows.pairs(n)
     }
 
     #[inline(never)]
@@ -131,25 +112,26 @@ fn number_rows(bench: &mut Bench) {
     row!(bench, &[(); INPUTS], analog_band());
     row!(bench, &[(); INPUTS], historical_confidence_far());
     let blocks: Vec<u32> = (0..INPUTS).map(|_| 1 + rng.below(1_100) as u32).collect();
-    row!(bench, &blocks, analog_lookback(n));
+    row!(bench, &blocks, analog_lookback(n), patched::analog_lookback);
     let rates: Vec<u64> = (0..INPUTS).map(|_| 1_000 + rng.below(100_000)).collect();
-    row!(bench, &rates, ln_rate(rate));
+    row!(bench, &rates, ln_rate(rate), patched::ln_rate);
 }
 
 /// The Rust allocates its targets; the Rattle is lent its memory once, while no clock runs.
 fn opening_row(bench: &mut Bench) {
     let (mut port, _) = windows(&BOX_TARGETS, &[]);
     let (mut targets, mut lent) = (BOX_TARGETS, port.all());
+    let opened = black_box(Patched::new as fn(&[u32]) -> Patched);
     bench.row(
         "windows_new_11_targets",
         &[(); INPUTS],
         |_| {
-            let opened = rattle::new(&mut targets, BOX_CAPACITY as usize, &mut lent);
-            black_box(&opened).refusal
+            let windows = rattle::new(&mut targets, BOX_CAPACITY as usize, &mut lent);
+            black_box(&windows).refusal
         },
         |_| {
-            let opened = rust::new(black_box(&BOX_TARGETS));
-            black_box(&opened).depths.len()
+            let windows = opened(&BOX_TARGETS);
+            black_box(&windows).depths.len()
         },
     );
 }
@@ -163,11 +145,12 @@ fn pairs_row(bench: &mut Bench) {
         _ => rng.pick(&BOX_TARGETS),
     };
     let asked: Vec<u32> = (0..INPUTS).map(asked).collect();
+    let pairs = black_box(Patched::pairs as fn(&Patched, u32) -> usize);
     bench.row(
         "windows_pairs",
         &asked,
         |n| rattle::pairs(port.state, *n),
-        |n| rust::pairs(&history, *n),
+        |n| pairs(&history, *n),
     );
 }
 
@@ -188,8 +171,12 @@ fn pop_rows(bench: &mut Bench) {
         fn(&mut Patched),
     );
     let rows: [Pops; 2] = [
-        ("pop_back_11_targets", rattle::pop_back, rust::pop_back),
-        ("pop_front_11_targets", rattle::pop_front, rust::pop_front),
+        ("pop_back_11_targets", rattle::pop_back, Patched::pop_back),
+        (
+            "pop_front_11_targets",
+            rattle::pop_front,
+            Patched::pop_front,
+        ),
     ];
     for (name, ours, theirs) in black_box(rows) {
         bench.row_of_runs(
