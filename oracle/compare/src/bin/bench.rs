@@ -50,8 +50,8 @@ fn run() -> Result<(), String> {
         return Ok(());
     }
     let rows = least_of(runs)?;
-    if rows.is_empty() {
-        return Err("there is no such row".to_string());
+    if let (true, Some(name)) = (rows.is_empty(), &bench.only) {
+        return Err(format!("there is no row '{name}'"));
     }
     for row in &rows {
         println!("{:<32}  {:.2}", row.name, row.ratio());
@@ -107,6 +107,9 @@ fn one_run() -> Result<Vec<Row>, String> {
             rust: words.next()?.parse().ok()?,
         })
     };
-    let rows = String::from_utf8_lossy(&said.stdout).lines().map(read).collect();
+    let rows = String::from_utf8_lossy(&said.stdout)
+        .lines()
+        .map(read)
+        .collect();
     Option::ok_or(rows, "a run wrote something else than rows".to_string())
 }

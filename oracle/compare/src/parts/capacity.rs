@@ -2,7 +2,7 @@
 //! of fee_est.rs. No stand-in concerns them, so that a difference with either Rust fails the run.
 
 use super::Part;
-use crate::bench::{Bench, INPUTS};
+use crate::bench::{Bench, INPUTS, row};
 use crate::check::{Function, Job, Plan};
 use crate::lent::{Lent, RateFields, lend};
 use crate::replay::Replay;
@@ -100,17 +100,13 @@ mod rattle {
 
 /// The Rust as it is timed: never inlined, so that both sides pay for a call.
 mod rust {
-    use super::patched;
+    use super::{Edges, FEE_BUCKET_EDGES_SAT_PER_KVB, patched};
     use std::cell::Cell;
 
+    /// The Rust works the edges out while it is compiled, and reads the constant.
     #[inline(never)]
-    pub extern "C" fn bucket_index(rate: u64) -> usize {
-        patched::bucket_index(rate)
-    }
-
-    #[inline(never)]
-    pub extern "C" fn first_bucket_above(rate: u64) -> usize {
-        patched::first_bucket_above(rate)
+    pub extern "C" fn flow_bucket_edges(out: &mut Edges) {
+        *out = FEE_BUCKET_EDGES_SAT_PER_KVB;
     }
 
     #[inline(never)]
@@ -729,10 +725,77 @@ fn bench_inputs<I>(count: usize, draw: fn(&mut Rng) -> I) -> Vec<I> {
     (0..count).map(|_| draw(&mut rng)).collect()
 }
 
-/// Both sides are pointers of one type, so that the same machine code calls them.
-fn side(function: extern "C" fn(u64) -> usize) -> impl Fn(&u64) -> usize {
-    let function = black_box(function);
-    move |&rate| function(rate)
+/// How many blocks a quoter asks for.
+fn draw_asked_blocks(rng: &mut Rng) -> u32 {
+    1 + rng.below(1_100) as u32
+}
+
+fn number_rows(bench: &mut Bench) {
+    let rates = bench_inputs(INPUTS, draw_market_rate);
+    row!(bench, &rates, bucket_index(rate), patched::bucket_index);
+    row!(
+        bench,
+        &rates,
+        first_bucket_above(rate),
+        patched::first_bucket_above
+    );
+    row!(bench, &[(); INPUTS], bucket_count(), patched::bucket_count);
+    let blocks = bench_inputs(INPUTS, draw_asked_blocks);
+    row!(bench, &blocks, capacity_wu(n), patched::capacity_wu);
+    row!(bench, &blocks, horizon_secs(n), patched::horizon_secs);
+    row!(
+        bench,
+        &blocks,
+        inflow_horizon_secs(n),
+        patched::inflow_horizon_secs
+    );
+    row!(
+        bench,
+        &blocks,
+        effective_capacity_wu(n),
+        patched::effective_capacity_wu
+    );
+    row!(
+        bench,
+        &blocks,
+        inclusion_confidence(n),
+        patched::inclusion_confidence
+    );
+}
+
+fn table_rows(bench: &mut Bench) {
+    const CALLS: [(); 1_000] = [(); 1_000];
+    let side = |function: extern "C" fn(&mut Edges)| {
+        let function = black_box(function);
+        let mut out = [0; FLOW_BUCKET_EDGE_COUNT];
+        move |&(): &()| {
+            function(&mut out);
+            black_box(&out)[0]
+        }
+    };
+    bench.row(
+        "flow_bucket_edges",
+        &CALLS,
+        side(rattle::flow_bucket_edges),
+        side(rust::flow_bucket_edges),
+    );
+    // The Rust allocates its list, and the Rattle writes into a lent array.
+    let list = |function: fn() -> Vec<u64>| {
+        let function = black_box(function);
+        move |&(): &()| function()
+    };
+    bench.row(
+        "default_candidate_rates",
+        &CALLS,
+        side(rattle::default_candidate_rates),
+        list(patched::default_candidate_rates),
+    );
+    bench.row(
+        "fine_candidate_rates",
+        &CALLS,
+        side(rattle::fine_candidate_rates),
+        list(patched::fine_candidate_rates),
+    );
 }
 
 pub struct Capacity;
@@ -759,19 +822,8 @@ impl Part for Capacity {
     }
 
     fn bench(&self, bench: &mut Bench) {
-        let rates = bench_inputs(INPUTS, draw_market_rate);
-        bench.row(
-            "bucket_index",
-            &rates,
-            side(rattle::bucket_index),
-            side(rust::bucket_index),
-        );
-        bench.row(
-            "first_bucket_above",
-            &rates,
-            side(rattle::first_bucket_above),
-            side(rust::first_bucket_above),
-        );
+        number_rows(bench);
+        table_rows(bench);
         // The Rust allocates its sums, and the Rattle writes into a lent array.
         let mut sums = [0; SUFFIX_COUNT];
         bench.row(

@@ -7,7 +7,7 @@
 //! in 64 bits, so that it holds every one of them, the largest u64 too.
 
 use super::Part;
-use crate::bench::{Bench, INPUTS};
+use crate::bench::{Bench, INPUTS, row};
 use crate::check::{Function, Job, Plan};
 use crate::replay::Replay;
 use crate::rng::Rng;
@@ -15,6 +15,7 @@ use crate::values::{around_word, pairs, special_floats};
 use crate::words::{Input, Word, Words};
 use patched_mempool::fee_est::{FEE_BUCKET_EDGES_SAT_PER_KVB, bucket_count};
 use std::f64::consts::LN_2;
+use std::hint::black_box;
 use std::sync::OnceLock;
 use std::time::{Duration, Instant};
 
@@ -53,6 +54,21 @@ mod rattle {
         pub safe fn admit_rates_wu_s(m: &mut RattleMeter, now: u64) -> AdmitRates;
         #[link_name = "juleyomu_note_admit"]
         pub safe fn note_admit(m: &mut RattleMeter, weight_wu: u64, rate: u64, now: u64);
+    }
+}
+
+/// The Rust as it is timed: never inlined, so that both sides pay for a call.
+mod rust {
+    use patched_mempool::fee_flow;
+
+    #[inline(never)]
+    pub extern "C" fn admit_half_life_secs() -> f64 {
+        fee_flow::ADMIT_HALF_LIFE_SECS
+    }
+
+    #[inline(never)]
+    pub extern "C" fn flow_full_wu() -> f64 {
+        fee_flow::flow_full_wu()
     }
 }
 
@@ -725,6 +741,27 @@ fn warm<M: Meter>() -> (M, u64) {
     (meter, clock)
 }
 
+/// The constants and the opening, for which the Rust allocates its rates and the Rattle returns them.
+fn opening_rows(bench: &mut Bench) {
+    row!(bench, &[(); INPUTS], admit_half_life_secs());
+    row!(bench, &[(); INPUTS], flow_full_wu());
+    let mut rng = Rng::new(1, "bench meter opening");
+    let clocks: Vec<u64> = (0..INPUTS).map(|_| rng.of_bits(60)).collect();
+    let opened = black_box(Patched::new as fn(Instant) -> Patched);
+    let instants: Vec<Instant> = clocks.iter().map(|clock| at(*clock)).collect();
+    bench.row_of_forms(
+        "fee_flow_meter",
+        (&clocks, |&now| {
+            let meter = rattle::fee_flow_meter(now);
+            black_box(&meter).last
+        }),
+        (&instants, |&now| {
+            let meter = opened(now);
+            black_box(&meter).last
+        }),
+    );
+}
+
 pub struct FeeFlow;
 
 impl Part for FeeFlow {
@@ -757,6 +794,7 @@ impl Part for FeeFlow {
 
     /// Calls about a millisecond apart, as of a busy node. Each side has its own meter.
     fn bench(&self, bench: &mut Bench) {
+        opening_rows(bench);
         let mut rng = Rng::new(1, "bench meter");
         let draw = |_| {
             let gap = 500_000 + rng.below(1_000_000);

@@ -1,7 +1,7 @@
 //! Part `num`: what Rust's std supplied to the fee code, and the stand-ins for `exp` and `ln`.
 
 use super::Part;
-use crate::bench::{Bench, INPUTS};
+use crate::bench::{Bench, INPUTS, input, row};
 use crate::check::{Function, Job, Plan};
 use crate::replay::Replay;
 use crate::rng::Rng;
@@ -12,8 +12,8 @@ use crate::values::{
 use crate::words::{Input, Word, Words, of_rank, rank};
 use patched_mempool::fee_analog::ANALOG_BAND;
 use patched_mempool::fee_est::BLEND_N0;
+use patched_mempool::stand_in;
 use std::f64::consts::{LN_2, SQRT_2};
-use std::hint::black_box;
 
 /// A u128 as two words.
 #[repr(C)]
@@ -79,8 +79,7 @@ mod rattle {
 
 /// The Rust behind the same calls: never inlined, so that both sides of a timing pay for a call.
 mod rust {
-    use super::{ANALOG_BAND, Wide, WideDivision};
-    use patched_mempool::stand_in;
+    use super::{ANALOG_BAND, Wide, WideDivision, stand_in};
 
     #[inline(never)]
     pub extern "C" fn saturating_add(a: u64, b: u64) -> u64 {
@@ -218,16 +217,6 @@ impl Words for WideDivision {
     }
 }
 
-/// The pattern of a function's arguments as one input.
-macro_rules! input {
-    ($arg:ident) => {
-        $arg
-    };
-    ($($arg:ident),*) => {
-        ($($arg),*)
-    };
-}
-
 /// A call as a closure on one input.
 macro_rules! call {
     ($side:ident::$name:ident($($arg:ident),*)) => {
@@ -239,26 +228,6 @@ macro_rules! call {
 macro_rules! function {
     ($name:ident $args:tt) => {
         Function::new(stringify!($name), call!(rattle::$name $args), call!(rust::$name $args))
-    };
-}
-
-/// A row of the timings. Both sides are pointers of one type, so that the same machine code calls them.
-macro_rules! row {
-    ($bench:ident, $inputs:expr, $name:ident $args:tt) => {
-        row!($bench, $inputs, stringify!($name), $name $args)
-    };
-    ($bench:ident, $inputs:expr, $row:expr, $name:ident($($arg:ident),*)) => {{
-        let side = |function: extern "C" fn($(any_type!($arg)),*) -> _| {
-            let function = black_box(function);
-            move |&input!($($arg),*): &_| function($($arg),*)
-        };
-        $bench.row($row, $inputs, side(rattle::$name), side(rust::$name));
-    }};
-}
-
-macro_rules! any_type {
-    ($arg:ident) => {
-        _
     };
 }
 
@@ -686,7 +655,7 @@ impl Part for Num {
         row!(bench, &rates, floor(x));
         row!(bench, &rates, ceil(x));
         let weights = bench_inputs(|rng| blend_argument(1 + rng.below(4249) as u32));
-        row!(bench, &weights, exp(x));
+        row!(bench, &weights, exp(x), stand_in::exp);
         let hurdles = bench_inputs(|rng| 100 + rng.below(1_000_000));
         row!(bench, &hurdles, ln(n));
         row!(bench, &[(); INPUTS], ln_1_25());

@@ -7,6 +7,7 @@ use crate::parts::windows::inputs::{BOX_CAPACITY, BOX_HURDLES, BOX_TARGETS, CALM
 use crate::rng::Rng;
 use patched_net::fee_history::HistoricalFeeBlock;
 use std::cell::Cell;
+use std::hint::black_box;
 
 /// Each block's byte count.
 const BYTES: u64 = 35_000;
@@ -181,6 +182,72 @@ fn insert_rows(bench: &mut Bench) {
     );
 }
 
+/// The Rust allocates its targets; the Rattle is lent its memory once, while no clock runs.
+fn opening_row(bench: &mut Bench) {
+    let mut memory = Memory::new(BOX_TARGETS.len(), BOX_CAPACITY as usize);
+    let (mut targets, mut lent) = (BOX_TARGETS, all(&mut memory));
+    let opened = black_box(Patched::new as fn(u64, &[u32]) -> Patched);
+    bench.row(
+        "history_new_11_targets",
+        &[(); INPUTS],
+        |_| {
+            let history = rattle::new(1 << 30, &mut targets, BOX_CAPACITY as usize, &mut lent);
+            black_box(&history).refusal
+        },
+        |_| {
+            let history = opened(1 << 30, &BOX_TARGETS);
+            black_box(&history).budget
+        },
+    );
+}
+
+/// Puts back the blocks that a cut took.
+fn put_back(history: &mut Patched, kept: &Patched) {
+    let held = history.blocks.len();
+    let taken = kept.blocks.iter().rev().take(kept.blocks.len() - held);
+    history.blocks.extend(taken.rev());
+    history.txstat_bytes = kept.txstat_bytes;
+    history.hashes.clone_from(&kept.hashes);
+    let (analog, kept) = (&mut history.analog, &kept.analog);
+    let held = analog.hurdles.len();
+    analog.hurdles.extend(kept.hurdles.range(held..));
+    for (depth, kept) in analog.depths.iter_mut().zip(&kept.depths) {
+        let held = depth.pairs.len();
+        depth.pairs.extend(kept.pairs.range(held..));
+    }
+}
+
+/// The newest of 31,000 blocks are cut off, each with a hash by a call of its own, or 1,000 by one; they
+/// are put back while no clock runs.
+fn cut_rows(bench: &mut Bench) {
+    let (mut port, kept) = histories(u64::MAX);
+    let (_, mut history) = histories(u64::MAX);
+    let (start, mut lent) = (port.state, all(&mut port.memory));
+    let mut state = start;
+    let tip = FIRST + BOX_HURDLES as u32 - 1;
+    let cut = black_box(Patched::truncate_above as fn(&mut Patched, u32));
+    let each: Vec<u32> = (1..=100).map(|cut| tip - cut).collect();
+    for (name, heights) in [
+        ("truncate_above", each),
+        ("truncate_above_1000", vec![tip - 1_000]),
+    ] {
+        bench.row_of_runs(
+            name,
+            &heights,
+            (
+                &mut state,
+                |state| *state = start,
+                |state, height| *state = rattle::truncate_above(*state, *height, &mut lent).state,
+            ),
+            (
+                &mut history,
+                |history| put_back(history, &kept),
+                |history, height| cut(history, *height),
+            ),
+        );
+    }
+}
+
 fn read_rows(bench: &mut Bench) {
     let (mut port, history) = histories(u64::MAX);
     let (state, mut lent) = (port.state, all(&mut port.memory));
@@ -236,6 +303,8 @@ fn rate_rows(bench: &mut Bench) {
 }
 
 pub fn rows(bench: &mut Bench) {
+    opening_row(bench);
+    cut_rows(bench);
     insert_rows(bench);
     read_rows(bench);
     rate_rows(bench);

@@ -3,13 +3,25 @@
 use super::inputs::{BOX_CAPACITY, BOX_HURDLES, BOX_TARGETS, CALM, Stretch, length_for};
 use super::rattle;
 use super::sides::{Call, Opening, Patched, Port, Side};
-use crate::bench::{Bench, INPUTS};
+use crate::bench::{Bench, INPUTS, row};
 use crate::rng::Rng;
+use patched_mempool::fee_analog as patched;
+use std::hint::black_box;
 
 /// The Rust as it is timed: never inlined, so that both sides pay for a call.
 mod rust {
     use super::Patched;
     use patched_mempool::fee_analog as patched;
+
+    #[inline(never)]
+    pub extern "C" fn analog_band() -> f64 {
+        patched::ANALOG_BAND
+    }
+
+    #[inline(never)]
+    pub extern "C" fn historical_confidence_far() -> f64 {
+        patched::HISTORICAL_CONFIDENCE_FAR
+    }
 
     #[inline(never)]
     pub fn push_back(windows: &mut Patched, hurdle: u64) {
@@ -95,6 +107,91 @@ fn windows(targets: &[u32], hurdles: &[u64]) -> (Port, Patched) {
     (port, history)
 }
 
+fn number_rows(bench: &mut Bench) {
+    let mut rng = Rng::new(1, "bench windows numbers");
+    row!(bench, &[(); INPUTS], analog_band());
+    row!(bench, &[(); INPUTS], historical_confidence_far());
+    let blocks: Vec<u32> = (0..INPUTS).map(|_| 1 + rng.below(1_100) as u32).collect();
+    row!(bench, &blocks, analog_lookback(n), patched::analog_lookback);
+    let rates: Vec<u64> = (0..INPUTS).map(|_| 1_000 + rng.below(100_000)).collect();
+    row!(bench, &rates, ln_rate(rate), patched::ln_rate);
+}
+
+/// The Rust allocates its targets; the Rattle is lent its memory once, while no clock runs.
+fn opening_row(bench: &mut Bench) {
+    let (mut port, _) = windows(&BOX_TARGETS, &[]);
+    let (mut targets, mut lent) = (BOX_TARGETS, port.all());
+    let opened = black_box(Patched::new as fn(&[u32]) -> Patched);
+    bench.row(
+        "windows_new_11_targets",
+        &[(); INPUTS],
+        |_| {
+            let windows = rattle::new(&mut targets, BOX_CAPACITY as usize, &mut lent);
+            black_box(&windows).refusal
+        },
+        |_| {
+            let windows = opened(&BOX_TARGETS);
+            black_box(&windows).depths.len()
+        },
+    );
+}
+
+/// 31,000 hurdles are held. Of eight numbers of blocks one is any, most often of no tracked target.
+fn pairs_row(bench: &mut Bench) {
+    let (port, history) = windows(&BOX_TARGETS, &calm(1, BOX_HURDLES));
+    let mut rng = Rng::new(1, "bench windows pairs");
+    let asked = |_| match rng.below(8) {
+        0 => 1 + rng.below(1_100) as u32,
+        _ => rng.pick(&BOX_TARGETS),
+    };
+    let asked: Vec<u32> = (0..INPUTS).map(asked).collect();
+    let pairs = black_box(Patched::pairs as fn(&Patched, u32) -> usize);
+    bench.row(
+        "windows_pairs",
+        &asked,
+        |n| rattle::pairs(port.state, *n),
+        |n| pairs(&history, *n),
+    );
+}
+
+/// 10,000 pops from 31,000 hurdles, which are put back while no clock runs.
+fn pop_rows(bench: &mut Bench) {
+    let hurdles = calm(1, BOX_HURDLES);
+    let (port, kept) = windows(&BOX_TARGETS, &hurdles);
+    let (mut state, mut history) = (port.state, windows(&BOX_TARGETS, &hurdles).1);
+    let set_back = |history: &mut Patched| {
+        history.hurdles.clone_from(&kept.hurdles);
+        for (depth, kept) in history.depths.iter_mut().zip(&kept.depths) {
+            depth.pairs.clone_from(&kept.pairs);
+        }
+    };
+    type Pops = (
+        &'static str,
+        extern "C" fn(rattle::State) -> rattle::UpdateFields,
+        fn(&mut Patched),
+    );
+    let rows: [Pops; 2] = [
+        ("pop_back_11_targets", rattle::pop_back, Patched::pop_back),
+        (
+            "pop_front_11_targets",
+            rattle::pop_front,
+            Patched::pop_front,
+        ),
+    ];
+    for (name, ours, theirs) in black_box(rows) {
+        bench.row_of_runs(
+            name,
+            &[(); 10_000],
+            (
+                &mut state,
+                |state| *state = port.state,
+                |state, _| *state = ours(*state).state,
+            ),
+            (&mut history, set_back, |history, _| theirs(history)),
+        );
+    }
+}
+
 /// A block comes and the oldest goes, or one goes and an older comes: 31,000 are held. What the port
 /// moves when it meets the end of its memory is in its time.
 fn push_rows(bench: &mut Bench) {
@@ -166,21 +263,23 @@ fn list_rows(bench: &mut Bench) {
         |list| rattle::lower_median(list),
         |list| rust::lower_median(list),
     );
-    bench.row_of_copies(
-        "log_quantile_200",
-        &lists(INPUTS as u64 / 200, 200),
-        |mut list| rattle::log_quantile(&mut list, 0.95),
-        |mut list| rust::log_quantile(&mut list, 0.95),
-    );
-    bench.row_of_copies(
-        "log_quantile_31000",
-        &lists(8, BOX_HURDLES),
-        |mut list| rattle::log_quantile(&mut list, 0.95),
-        |mut list| rust::log_quantile(&mut list, 0.95),
-    );
+    for (name, lists) in [
+        ("log_quantile_200", lists(INPUTS as u64 / 200, 200)),
+        ("log_quantile_31000", lists(8, BOX_HURDLES)),
+    ] {
+        bench.row_of_copies(
+            name,
+            (&lists, |list| rattle::log_quantile(list, 0.95)),
+            (&lists, |list| rust::log_quantile(list, 0.95)),
+        );
+    }
 }
 
 pub fn rows(bench: &mut Bench) {
+    number_rows(bench);
+    opening_row(bench);
+    pairs_row(bench);
+    pop_rows(bench);
     push_rows(bench);
     rate_rows(bench);
     list_rows(bench);
