@@ -17,7 +17,7 @@ use Rattle.rbitcoin_mempool.specs.Reached.{popBackIn, popFrontIn}
 use Rattle.rbitcoin_mempool.specs.Windows.{WellStored, Windows, at, freeOf, held, heldIn, movedTo, popped, pushBackOf, pushFrontOf, pushRefusalOf, roomBack, roomFront, stateRefusal, storeBack, storeFront, storedAt, storedPairs, targetAt, windows, withPairs}
 use Rattle.rbitcoin_mempool.proofs.Neighbors.{few}
 use Rattle.rbitcoin_mempool.proofs.Parts.{ahead-windowed, before-windowed, held-all-back, held-all-front, held-back, held-front, held-moved, length-held}
-use Rattle.rbitcoin_mempool.proofs.Pushes.{OpenBack, OpenFront, ValidIn, each-length, moved-valid, push-back-done, push-back-refused, push-front-done, push-front-refused, room-back-open, room-front-open, store-back-valid, store-front-valid}
+use Rattle.rbitcoin_mempool.proofs.Pushes.{OpenAt, ValidIn, each-length, moved-valid, push-done, push-refused, room-open, store-valid}
 use Rattle.rbitcoin_mempool.proofs.Puts.{ahead-least}
 use Rattle.rbitcoin_mempool.proofs.Refusals.{accepted, popped-none, popped-refused, popped-some, zero-or-not}
 use Rattle.rbitcoin_mempool.proofs.Stored.{Holds, back-holds, front-holds, move-holds, pop-back-holds, pop-front-holds, put-long}
@@ -118,7 +118,7 @@ pairs-valid newest w v =
     (each-length _ (w .state .tracked) (w .aheads) (λ d k ys e. put-long aheadAt 0 newest (w .state) (held (w .state) (w .hurdles)) d ys ∙ e))
 
 module _ (w : Windows) (x : ℕ) (h : HoldsBoth w) where
-  store-back-keeps : OpenBack w → Good (withPairs true (storeBack x w))
+  store-back-keeps : OpenAt true w → Good (withPairs true (storeBack x w))
   unfolding withPairs storeBack
   store-back-keeps o =
       let s = w .state in
@@ -128,7 +128,7 @@ module _ (w : Windows) (x : ℕ) (h : HoldsBoth w) where
       let n : length (held s (w .hurdles)) ≡ s .count = length-held s (w .hurdles) (omega arith) in
       let e : held (at s (s .start) (s .count + 1)) (set (w .hurdles) (s .start + s .count) x) ≡ held s (w .hurdles) ++ (x ∷ []) = held-back s (w .hurdles) x (omega arith) in
       record {
-        valid = pairs-valid true (storeBack x w) (store-back-valid w x o);
+        valid = pairs-valid true (storeBack x w) (store-valid w x true o);
         holds =
             record {
               befores-hold = rw e (back-holds beforeAt nan s (held s (w .hurdles)) (w .befores) before-windowed x i (v .befores-fit) n (h .befores-hold));
@@ -136,7 +136,7 @@ module _ (w : Windows) (x : ℕ) (h : HoldsBoth w) where
             };
       }
 
-  store-front-keeps : OpenFront w → Good (withPairs false (storeFront x w))
+  store-front-keeps : OpenAt false w → Good (withPairs false (storeFront x w))
   unfolding withPairs storeFront
   store-front-keeps o =
       let s = w .state in
@@ -147,7 +147,7 @@ module _ (w : Windows) (x : ℕ) (h : HoldsBoth w) where
       let n : length (held s (w .hurdles)) ≡ s .count = length-held s (w .hurdles) (omega arith) in
       let e : held (at s (s .start - 1) (s .count + 1)) (set (w .hurdles) (s .start - 1) x) ≡ x ∷ held s (w .hurdles) = held-front s (w .hurdles) x i (omega arith) in
       record {
-        valid = pairs-valid false (storeFront x w) (store-front-valid w x o);
+        valid = pairs-valid false (storeFront x w) (store-valid w x false o);
         holds =
             record {
               befores-hold = rw e (front-holds beforeAt nan s (held s (w .hurdles)) (w .befores) before-windowed x i q (v .befores-fit) n (h .befores-hold));
@@ -161,16 +161,16 @@ module _ (w : Windows) (x : ℕ) (g : Good w) where
   push-back-good =
       ⊎-elim
       (λ z. let o = accepted (w .state) _ _ _ z in
-      subst Good (push-back-done w x z) (store-back-keeps (roomBack w) x (back-room-keeps w g (o .room) .holds) (room-back-open w (o .valid) (o .room))))
-      (λ n. subst Good (push-back-refused w x n) g)
+      subst Good (push-done w x true z) (store-back-keeps (roomBack w) x (back-room-keeps w g (o .room) .holds) (room-open w (o .valid) (o .room) true)))
+      (λ n. subst Good (push-refused w x true n) g)
       (zero-or-not (pushRefusalOf w))
 
   pub push-front-good : Good (pushFrontOf x w)
   push-front-good =
       ⊎-elim
       (λ z. let o = accepted (w .state) _ _ _ z in
-      subst Good (push-front-done w x z) (store-front-keeps (roomFront w) x (front-room-keeps w g (o .room) .holds) (room-front-open w (o .valid) (o .room))))
-      (λ n. subst Good (push-front-refused w x n) g)
+      subst Good (push-done w x false z) (store-front-keeps (roomFront w) x (front-room-keeps w g (o .room) .holds) (room-open w (o .valid) (o .room) false)))
+      (λ n. subst Good (push-refused w x false n) g)
       (zero-or-not (pushRefusalOf w))
 
 -- one hurdle fewer

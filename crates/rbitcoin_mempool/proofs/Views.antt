@@ -13,7 +13,7 @@ use Rattle.rbitcoin_mempool.specs.Pairs.{popBack, popFront, pushBack, pu
 use Rattle.rbitcoin_mempool.specs.Reached.{popBackIn, popFrontIn}
 use Rattle.rbitcoin_mempool.specs.Windows.{Windows, freeOf, held, heldIn, movedTo, pushBackOf, pushFrontOf, pushRefusalOf, roomBack, roomFront, stateRefusal, storeBack, storeFront, withPairs}
 use Rattle.rbitcoin_mempool.proofs.Parts.{held-all-back, held-all-front, held-back, held-front, held-moved}
-use Rattle.rbitcoin_mempool.proofs.Pushes.{OpenBack, OpenFront, ValidIn, push-back-done, push-front-done, room-back-open, room-front-open}
+use Rattle.rbitcoin_mempool.proofs.Pushes.{OpenAt, ValidIn, push-done, room-open}
 use Rattle.rbitcoin_mempool.proofs.Refusals.{accepted, popped-none, popped-some, valid-state, zero-or-not}
 use Rattle.rbitcoin_mempool.proofs.Values.{back-kept, back-moved, front-kept, front-moved}
 
@@ -36,11 +36,11 @@ module _ (w : Windows) (v : ValidIn w) where
       (λ l. subst (λ (u : Windows). heldIn u ≡ heldIn w) (front-kept w (λ e. omega arith)) refl)
       (eq-or-lt-of-le (let z : 0 ≤ w .state .start = omega arith in z))
 
-store-back-held : (w : Windows) (x : ℕ) → OpenBack w → heldIn (withPairs true (storeBack x w)) ≡ heldIn w ++ (x ∷ [])
+store-back-held : (w : Windows) (x : ℕ) → OpenAt true w → heldIn (withPairs true (storeBack x w)) ≡ heldIn w ++ (x ∷ [])
 unfolding withPairs storeBack
 store-back-held w x o = let i = o .room in let j = o .valid .hurdles-fit in held-back (w .state) (w .hurdles) x (omega arith)
 
-store-front-held : (w : Windows) (x : ℕ) → OpenFront w → heldIn (withPairs false (storeFront x w)) ≡ x ∷ heldIn w
+store-front-held : (w : Windows) (x : ℕ) → OpenAt false w → heldIn (withPairs false (storeFront x w)) ≡ x ∷ heldIn w
 unfolding withPairs storeFront
 store-front-held w x o = let i = o .room in let k = o .valid .within in let j = o .valid .hurdles-fit in held-front (w .state) (w .hurdles) x i (omega arith)
 
@@ -48,14 +48,14 @@ module _ (w : Windows) (x : ℕ) (z : pushRefusalOf w ≡ 0) where
   pub push-back-held : heldIn (pushBackOf x w) ≡ pushBack x (heldIn w)
   push-back-held =
       let o = accepted (w .state) _ _ _ z in
-      subst (λ (u : Windows). heldIn u ≡ heldIn w ++ (x ∷ [])) (push-back-done w x z)
-      (store-back-held (roomBack w) x (room-back-open w (o .valid) (o .room)) ∙ ap (λ (l : List ℕ). l ++ (x ∷ [])) (back-room-held w (o .valid) (o .room)))
+      subst (λ (u : Windows). heldIn u ≡ heldIn w ++ (x ∷ [])) (push-done w x true z)
+      (store-back-held (roomBack w) x (room-open w (o .valid) (o .room) true) ∙ ap (λ (l : List ℕ). l ++ (x ∷ [])) (back-room-held w (o .valid) (o .room)))
 
   pub push-front-held : heldIn (pushFrontOf x w) ≡ pushFront x (heldIn w)
   push-front-held =
       let o = accepted (w .state) _ _ _ z in
-      subst (λ (u : Windows). heldIn u ≡ x ∷ heldIn w) (push-front-done w x z)
-      (store-front-held (roomFront w) x (room-front-open w (o .valid) (o .room)) ∙ ap (λ (l : List ℕ). x ∷ l) (front-room-held w (o .valid) (o .room)))
+      subst (λ (u : Windows). heldIn u ≡ x ∷ heldIn w) (push-done w x false z)
+      (store-front-held (roomFront w) x (room-open w (o .valid) (o .room) false) ∙ ap (λ (l : List ℕ). x ∷ l) (front-room-held w (o .valid) (o .room)))
 
 -- the last of a list dropped
 drop-last : (hs gs : List ℕ) (x : ℕ) → hs ≡ gs ++ (x ∷ []) → gs ≡ popBack hs

@@ -122,6 +122,9 @@ roomBack w = cond (eqb (w .state .start + w .state .count) (w .state .capacity))
 unfoldable pub roomFront : Windows → Windows
 roomFront w = cond (eqb (w .state .start) 0) (movedTo (freeOf (w .state) - freeOf (w .state) / 4) w) w
 
+abbrev pub roomOf : Bool → Windows → Windows
+roomOf newest w = cond newest (roomBack w) (roomFront w)
+
 -- a hurdle stored after the newest, or before the oldest
 unfoldable pub storeBack : ℕ → Windows → Windows
 storeBack x w = windows (at (w .state) (w .state .start) (w .state .count + 1)) (set (w .hurdles) (w .state .start + w .state .count) x) (w .befores) (w .aheads)
@@ -153,6 +156,9 @@ pushBackOf x w = cond (eqb (pushRefusalOf w) 0) (withPairs true (storeBack x (ro
 
 unfoldable pub pushFrontOf : ℕ → Windows → Windows
 pushFrontOf x w = cond (eqb (pushRefusalOf w) 0) (withPairs false (storeFront x (roomFront w))) w
+
+abbrev pub pushOf : Bool → ℕ → Windows → Windows
+pushOf newest x w = cond newest (pushBackOf x w) (pushFrontOf x w)
 
 -- `rebuild`: everything dropped, and each hurdle pushed behind
 unfoldable pub pushAll : List ℕ → Windows → Windows

@@ -2,10 +2,10 @@
 use mathlib.Core.Path.{_≡_, refl, ap, sym, _∙_}
 use Prim.Native.Nat.{ℕ, zero, suc, _+_, _*_, _-_, _≤_, _<_, min}
 use native.Mathlib.Nat.{le-of-suc-le-suc, not-suc-le-zero}
-use native.Mathlib.Numerals.{unary-clauses}
+use native.Mathlib.Numerals.{add-one, unary-clauses}
 use native.Mathlib.Omega.{arith}
-use mathlib.Core.List.{List, [], _∷_}
-use lib.ListN.{length, getD, take, drop, set, length-drop}
+use mathlib.Core.List.{List, [], _∷_, map}
+use lib.ListN.{length, getD, take, drop, set, length-drop, length-map, List·getD-map}
 use lib.Seq.{take-nil, take-all, drop-cons, drop-length}
 use Rattle.replay_lines.specs.Hex.{hexOf}
 use Rattle.replay_lines.specs.Lines.{wordsOf}
@@ -32,6 +32,14 @@ unfolding over
 over-all [] out = rw (take-nil {A = ℕ} (min 0 (length out)))
 over-all (x ∷ xs) [] = simp unary-clauses
 over-all (x ∷ xs) (y ∷ out) = simp unary-clauses (ap (λ (l : List ℕ). x ∷ l) (over-all xs out))
+
+-- a list's elements by f put over another's: one more, and all
+module _ (f : ℕ → ℕ) (xs out ys : List ℕ) (i : ℕ) (e : ys ≡ over (take i (map f xs)) out) where
+  pub put-one : f 0 ≡ 0 → i < length xs → i < length out → set ys i (f (getD xs i 0)) ≡ over (take (i + 1) (map f xs)) out
+  put-one z h k = rw (add-one, e, ← List·getD-map f xs i 0, z) (over-one (map f xs) out i (omega (arith, length-map xs f)) k)
+
+  pub put-all : i ≡ min (length xs) (length out) → ys ≡ over (map f xs) out
+  put-all n = rw (n ∙ ap (λ (l : ℕ). min l (length out)) (sym (length-map xs f))) at e ∙ over-all (map f xs) out
 
 pub mixed-one : (d : ℕ) (ws : List ℕ) (i : ℕ) → i < length ws → mixedAll (mixed d (getD ws i 0)) (drop (suc i) ws) ≡ mixedAll d (drop i ws)
 unfolding mixedAll

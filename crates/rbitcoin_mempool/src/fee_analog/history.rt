@@ -6,7 +6,7 @@ ghost use mathlib.Core.Path.{_≡_};
 ghost use lib.ListN.{length, getD};
 ghost use Rattle.slices.specs.Lists.{tabulate};
 ghost use Rattle.rbitcoin_mempool.specs.Outcome.{verdict, verdictOf};
-ghost use Rattle.rbitcoin_mempool.specs.Windows.{windows, openRefusal, opened, unopened, stateRefusal, pushRefusalOf, pushBackOf, pushFrontOf, popBackOf, popFrontOf, pushAll, rebuildRefusalOf, rebuiltOf, pairCount};
+ghost use Rattle.rbitcoin_mempool.specs.Windows.{windows, openRefusal, opened, unopened, stateRefusal, pushRefusalOf, pushBackOf, pushFrontOf, pushOf, popBackOf, popFrontOf, pushAll, rebuildRefusalOf, rebuiltOf, pairCount};
 ghost use Rattle.rbitcoin_mempool.specs.Answer.{answer};
 ghost use Rattle.rbitcoin_mempool.specs.Counted.{counted, countedOf};
 ghost use Rattle.rbitcoin_mempool.specs.Scan.{rateSatKvb, ScratchAfter};
@@ -18,8 +18,7 @@ use super::refusals::push_refusal;
 use super::refusals::rebuild_refusal;
 use super::refusals::state_refusal;
 use super::room::placed;
-use super::room::room_back;
-use super::room::room_front;
+use super::room::room;
 use super::scan::find_target;
 use super::scan::pairs_in;
 use super::scan::scan;
@@ -123,6 +122,37 @@ impl AnalogHistory {
         }
     }
 
+    // A hurdle put in after the newest, or before the oldest.
+    fn push(
+        self,
+        newest: bool,
+        hurdle: u64,
+        hurdles: &mut [u64],
+        befores: &mut [f64],
+        aheads: &mut [u64],
+    ) -> Update
+        ensures { λ r. ⌜ verdict (r .outcome) ≡ verdictOf (pushRefusalOf (windows self (now (hurdles .entry)) (now (befores .entry)) (now (aheads .entry)))) ⌝ }
+        ensures { λ r. ⌜ windows (r .state) (now (hurdles .exit)) (now (befores .exit)) (now (aheads .exit)) ≡ pushOf newest hurdle (windows self (now (hurdles .entry)) (now (befores .entry)) (now (aheads .entry))) ⌝ }
+    {
+        let refusal = push_refusal(self, hurdles.len(), befores.len(), aheads.len());
+        if refusal != 0 {
+            return Update {
+                outcome: Outcome::Refused(refusal),
+                state: self,
+            };
+        }
+        let r = room(self, newest, hurdles, befores, aheads);
+        let first = if newest { r.start } else { r.start - 1 };
+        let place = if newest { r.start + r.count } else { first };
+        hurdles[place] = hurdle;
+        let t = placed(r, first, r.count + 1);
+        put_pairs(t, newest, hurdles, befores, aheads);
+        Update {
+            outcome: Outcome::Done,
+            state: t,
+        }
+    }
+
     // Append the newest block's hurdle.
     pub fn push_back(
         self,
@@ -134,22 +164,7 @@ impl AnalogHistory {
         ensures { λ r. ⌜ verdict (r .outcome) ≡ verdictOf (pushRefusalOf (windows self (now (hurdles .entry)) (now (befores .entry)) (now (aheads .entry)))) ⌝ }
         ensures { λ r. ⌜ windows (r .state) (now (hurdles .exit)) (now (befores .exit)) (now (aheads .exit)) ≡ pushBackOf hurdle (windows self (now (hurdles .entry)) (now (befores .entry)) (now (aheads .entry))) ⌝ }
     {
-        let refusal = push_refusal(self, hurdles.len(), befores.len(), aheads.len());
-        if refusal != 0 {
-            return Update {
-                outcome: Outcome::Refused(refusal),
-                state: self,
-            };
-        }
-        let r = room_back(self, hurdles, befores, aheads);
-        let end = r.start + r.count;
-        hurdles[end] = hurdle;
-        let t = placed(r, r.start, r.count + 1);
-        put_pairs(t, true, hurdles, befores, aheads);
-        Update {
-            outcome: Outcome::Done,
-            state: t,
-        }
+        self.push(true, hurdle, hurdles, befores, aheads)
     }
 
     // Drop the newest block's hurdle: its windows end with it.
@@ -187,22 +202,7 @@ impl AnalogHistory {
         ensures { λ r. ⌜ verdict (r .outcome) ≡ verdictOf (pushRefusalOf (windows self (now (hurdles .entry)) (now (befores .entry)) (now (aheads .entry)))) ⌝ }
         ensures { λ r. ⌜ windows (r .state) (now (hurdles .exit)) (now (befores .exit)) (now (aheads .exit)) ≡ pushFrontOf hurdle (windows self (now (hurdles .entry)) (now (befores .entry)) (now (aheads .entry))) ⌝ }
     {
-        let refusal = push_refusal(self, hurdles.len(), befores.len(), aheads.len());
-        if refusal != 0 {
-            return Update {
-                outcome: Outcome::Refused(refusal),
-                state: self,
-            };
-        }
-        let r = room_front(self, hurdles, befores, aheads);
-        let first = r.start - 1;
-        hurdles[first] = hurdle;
-        let t = placed(r, first, r.count + 1);
-        put_pairs(t, false, hurdles, befores, aheads);
-        Update {
-            outcome: Outcome::Done,
-            state: t,
-        }
+        self.push(false, hurdle, hurdles, befores, aheads)
     }
 
     // Drop the oldest block's hurdle: its lookbacks start with it.

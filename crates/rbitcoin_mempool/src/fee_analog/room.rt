@@ -2,7 +2,7 @@
 ghost use mathlib.Core.Path.{_≡_};
 ghost use Prim.Native.Nat.{_+_, _≤_};
 ghost use lib.ListN.{length};
-ghost use Rattle.rbitcoin_mempool.specs.Windows.{windows, Valid, at, eachTarget, moveRegion, movedTo, roomBack, roomFront};
+ghost use Rattle.rbitcoin_mempool.specs.Windows.{windows, Valid, at, eachTarget, moveRegion, movedTo, roomOf};
 use super::history::AnalogHistory;
 
 // The same state with the held hurdles elsewhere.
@@ -52,35 +52,25 @@ fn move_to(
     placed(s, to, s.count)
 }
 
-// Room after the newest hurdle.
-pub(crate) fn room_back(
+// Room for one more hurdle, after the newest or before the oldest.
+pub(crate) fn room(
     s: AnalogHistory,
+    newest: bool,
     hurdles: &mut [u64],
     befores: &mut [f64],
     aheads: &mut [u64],
 ) -> AnalogHistory
     requires { ⌜ Valid s (length (now hurdles)) (length (now befores)) (length (now aheads)) ⌝ }
-    ensures { λ r. ⌜ windows r (now (hurdles .exit)) (now (befores .exit)) (now (aheads .exit)) ≡ roomBack (windows s (now (hurdles .entry)) (now (befores .entry)) (now (aheads .entry))) ⌝ }
+    ensures { λ r. ⌜ windows r (now (hurdles .exit)) (now (befores .exit)) (now (aheads .exit)) ≡ roomOf newest (windows s (now (hurdles .entry)) (now (befores .entry)) (now (aheads .entry))) ⌝ }
 {
-    if s.start + s.count == s.capacity {
-        let free = s.capacity - s.count;
-        return move_to(s, free / 4, hurdles, befores, aheads);
+    let free = s.capacity - s.count;
+    if newest {
+        if s.start + s.count == s.capacity {
+            return move_to(s, free / 4, hurdles, befores, aheads);
+        }
+        return s;
     }
-    s
-}
-
-// Room before the oldest hurdle.
-pub(crate) fn room_front(
-    s: AnalogHistory,
-    hurdles: &mut [u64],
-    befores: &mut [f64],
-    aheads: &mut [u64],
-) -> AnalogHistory
-    requires { ⌜ Valid s (length (now hurdles)) (length (now befores)) (length (now aheads)) ⌝ }
-    ensures { λ r. ⌜ windows r (now (hurdles .exit)) (now (befores .exit)) (now (aheads .exit)) ≡ roomFront (windows s (now (hurdles .entry)) (now (befores .entry)) (now (aheads .entry))) ⌝ }
-{
     if s.start == 0 {
-        let free = s.capacity - s.count;
         return move_to(s, free - free / 4, hurdles, befores, aheads);
     }
     s
