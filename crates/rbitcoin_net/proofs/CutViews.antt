@@ -64,32 +64,23 @@ rated false n = refl
 
 -- a pop keeps targets and capacity
 module _ (to : ℕ) (s : AnalogHistory) where
-  pub pop-tracked : popped to s .tracked ≡ s .tracked
+  pop-keeps : {A : Type 0} (f : AnalogHistory → A) → f (at s to (s .count - 1)) ≡ f s → f (popped to s) ≡ f s
   unfolding popped
-  pop-tracked = go (eqb (windowsRefusal s) 0) (eqb (s .count) 0)
+  pop-keeps f e = go (eqb (windowsRefusal s) 0) (eqb (s .count) 0)
     where
-      go : (b c : Bool) → cond b (cond c s (at s to (s .count - 1))) s .tracked ≡ s .tracked
+      go : (b c : Bool) → f (cond b (cond c s (at s to (s .count - 1))) s) ≡ f s
       go true true = refl
-      go true false = refl
+      go true false = e
       go false c = refl
+
+  pub pop-tracked : popped to s .tracked ≡ s .tracked
+  pop-tracked = pop-keeps (λ x. x .tracked) refl
 
   pub pop-targets : popped to s .targets ≡ s .targets
-  unfolding popped
-  pop-targets = go (eqb (windowsRefusal s) 0) (eqb (s .count) 0)
-    where
-      go : (b c : Bool) → cond b (cond c s (at s to (s .count - 1))) s .targets ≡ s .targets
-      go true true = refl
-      go true false = refl
-      go false c = refl
+  pop-targets = pop-keeps (λ x. x .targets) refl
 
   pub pop-capacity : popped to s .capacity ≡ s .capacity
-  unfolding popped
-  pop-capacity = go (eqb (windowsRefusal s) 0) (eqb (s .count) 0)
-    where
-      go : (b c : Bool) → cond b (cond c s (at s to (s .count - 1))) s .capacity ≡ s .capacity
-      go true true = refl
-      go true false = refl
-      go false c = refl
+  pop-capacity = pop-keeps (λ x. x .capacity) refl
 
 module _ (m : Rows) (z : Hashes) (us : List ℕ) (bs : List Float) (ds : List ℕ) where
   abbrev memory : Lent

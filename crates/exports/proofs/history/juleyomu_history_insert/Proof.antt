@@ -6,42 +6,6 @@ use Rattle.rbitcoin_mempool.specs.Outcome.{verdictOf}
 use Rattle.exports.proofs.history.juleyomu_history_insert.Statement.{statement}
 use Rattle.exports.proofs.history.juleyomu_history_insert.Tie as tie
 
-block-of-requires : tie.Need-block-of-requires
-block-of-requires c κs = search needs
-
-insert-requires : tie.Need-insert-requires
-insert-requires c κs = search needs
-
-history-fields-requires : tie.Need-history-fields-requires
-history-fields-requires c κs = search needs
-
-same-length : tie.Need-same-length
-same-length c = search needs
-
-same-length-2 : tie.Need-same-length-2
-same-length-2 c = search needs
-
-same-length-3 : tie.Need-same-length-3
-same-length-3 c = search needs
-
-same-length-4 : tie.Need-same-length-4
-same-length-4 c = search needs
-
-same-length-5 : tie.Need-same-length-5
-same-length-5 c = search needs
-
-same-length-6 : tie.Need-same-length-6
-same-length-6 c = search needs
-
-same-length-7 : tie.Need-same-length-7
-same-length-7 c = search needs
-
-same-length-8 : tie.Need-same-length-8
-same-length-8 c = search needs
-
-same-length-9 : tie.Need-same-length-9
-same-length-9 c = search needs
-
 returns : tie.Need-returns
 returns c =
     let u = c .history-fields .ensures in
@@ -53,16 +17,16 @@ pub juleyomu-history-insert-spec : {M : Type 1} → statement M
 juleyomu-history-insert-spec =
     tie.close
     (tie.spec
-    block-of-requires
-    insert-requires
-    history-fields-requires
-    same-length
-    same-length-2
-    same-length-3
-    same-length-4
-    same-length-5
-    same-length-6
-    same-length-7
-    same-length-8
-    same-length-9
+    (λ c κs. search needs)
+    (λ c κs. search needs)
+    (λ c κs. search needs)
+    (λ c. search needs)
+    (λ c. search needs)
+    (λ c. search needs)
+    (λ c. search needs)
+    (λ c. search needs)
+    (λ c. search needs)
+    (λ c. search needs)
+    (λ c. search needs)
+    (λ c. search needs)
     returns)
