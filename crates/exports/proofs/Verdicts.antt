@@ -1,9 +1,18 @@
 -- Numbers of a refusal and of a count, through what they stand for and back. Assumes nothing.
 use Prim.Native.Nat.{ℕ, zero, suc}
-use mathlib.Core.Path.{_≡_, ap, sym, _∙_}
-use Rattle.rbitcoin_mempool.specs.Outcome.{Verdict, verdictOf}
+use mathlib.Core.Path.{_≡_, refl, ap, sym, _∙_}
+use Rattle.rbitcoin_mempool.specs.declared.answer.Outcome.{Outcome}
+use Rattle.rbitcoin_mempool.specs.declared.answer.Outcome.the-variants.{Done, Refused}
+use Rattle.rbitcoin_mempool.specs.Outcome.{Verdict, verdict, verdictOf}
+use Rattle.rbitcoin_mempool.specs.Rates.{refusalNumber, numberOf}
 use Rattle.rbitcoin_mempool.specs.Counted.{Counted, countedOf}
-use Rattle.exports.specs.Updates.{verdictNumber, countRefusal, countNumber}
+use Rattle.rbitcoin_net.specs.Openings.{verdictNumber}
+use Rattle.exports.specs.Updates.{countRefusal, countNumber}
+
+-- the number of an outcome, by its verdict and by the refusal that may be there
+pub number-same : (o : Outcome) → verdictNumber (verdict o) ≡ numberOf (refusalNumber o)
+number-same Done = refl
+number-same (Refused k) = refl
 
 pub number-is : (k : ℕ) (v : Verdict) → v ≡ verdictOf k → verdictNumber v ≡ k
 unfolding verdictOf

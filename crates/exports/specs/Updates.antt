@@ -1,14 +1,8 @@
--- An operation's outcome and a count as numbers. Definitions only.
+-- A count as numbers. Definitions only.
 use Prim.Native.Nat.{ℕ}
-use Rattle.rbitcoin_mempool.specs.Outcome.{Verdict, done, refused}
 use Rattle.rbitcoin_mempool.specs.Counted as counts
 
--- the refusal's number or 0
-abbrev pub verdictNumber : Verdict → ℕ
-verdictNumber done = 0
-verdictNumber (refused k) = k
-
--- the same of a count, and the count or 0
+-- the refusal's number or 0, and the count or 0
 abbrev pub countRefusal : counts.Counted → ℕ
 countRefusal (counts.count n) = 0
 countRefusal (counts.refused k) = k

@@ -1,14 +1,14 @@
 // The functions of depth rates and targets.
 ghost use mathlib.Core.Path.{_≡_};
 ghost use lib.ListN.{length};
-ghost use Rattle.rbitcoin_mempool.specs.Rates.{given, refusalNumber, marked, numberOf, markOf};
+ghost use Rattle.rbitcoin_mempool.specs.Rates.{given, marked, numberOf, markOf};
 ghost use Rattle.rbitcoin_mempool.specs.Depths.{blendWeight, flowForDepth, blendSatKvb, warmupBlend, depthRateSatKvb, publishedDepthRate};
 ghost use Rattle.rbitcoin_mempool.specs.Hold.{enforceMonotoneDesc, holdRefusal, heldNumbers, heldMarks, argsOf, loopRefusal, loopNumbers, loopMarks};
 ghost use Rattle.rbitcoin_mempool.specs.Target.{lerpSatKvb, feeAtTargetSatKvb};
 ghost use Rattle.exports.specs.Fields.{Fields};
 use crate::rate::RateFields;
 use crate::rate::rate_fields;
-use rbitcoin_mempool::answer::Outcome;
+use crate::rate::refusal_number;
 use rbitcoin_mempool::answer::Rate;
 use rbitcoin_mempool::fee_est;
 
@@ -35,16 +35,6 @@ fn marked_rate(rate: Rate) -> MarkedRate
     match rate {
         Rate::There(rate) => MarkedRate { mark: 1, rate },
         Rate::Missing => MarkedRate { mark: 0, rate: 0 },
-    }
-}
-
-// The number of a refusal or 0.
-fn number_of(outcome: Outcome) -> u8
-    ensures { λ r. ⌜ r ≡ numberOf (refusalNumber outcome) ⌝ }
-{
-    match outcome {
-        Outcome::Done => 0,
-        Outcome::Refused(refusal) => refusal,
     }
 }
 
@@ -142,7 +132,7 @@ pub extern "C" fn juleyomu_hold_defined_then_monotone(rates: &mut [u64], marks: 
     ensures { λ _. ⌜ now (rates .exit) ≡ heldNumbers (now (rates .entry)) (now (marks .entry)) ⌝ }
     ensures { λ _. ⌜ now (marks .exit) ≡ heldMarks (now (rates .entry)) (now (marks .entry)) ⌝ }
 {
-    number_of(fee_est::hold_defined_then_monotone(rates, marks))
+    refusal_number(fee_est::hold_defined_then_monotone(rates, marks))
 }
 
 #[no_mangle]
@@ -163,7 +153,7 @@ pub extern "C" fn juleyomu_published_depth_rates(
     ensures { λ _. ⌜ now (out .exit) ≡ loopNumbers (argsOf (now (depths .entry)) (now (projected .entry)) (now («projected_marks» .entry)) (now (frontier .entry)) (now («frontier_marks» .entry)) (now (history .entry)) (now («history_marks» .entry)) (marked (confirm .rate) (confirm .mark)) alpha) (now (out .entry)) (now («out_marks» .entry)) ⌝ }
     ensures { λ _. ⌜ now («out_marks» .exit) ≡ loopMarks (argsOf (now (depths .entry)) (now (projected .entry)) (now («projected_marks» .entry)) (now (frontier .entry)) (now («frontier_marks» .entry)) (now (history .entry)) (now («history_marks» .entry)) (marked (confirm .rate) (confirm .mark)) alpha) (now (out .entry)) (now («out_marks» .entry)) ⌝ }
 {
-    number_of(fee_est::published_depth_rates(
+    refusal_number(fee_est::published_depth_rates(
         depths,
         projected,
         projected_marks,

@@ -7,16 +7,15 @@ ghost use Rattle.rbitcoin_net.specs.Cuts.{Truncates};
 ghost use Rattle.rbitcoin_net.specs.Hashes.{hashOf};
 ghost use Rattle.rbitcoin_net.specs.Inserts.{whole, Inserts, InsertsIfAbsent};
 ghost use Rattle.rbitcoin_net.specs.Lent.{rows, hashes, lent};
-ghost use Rattle.rbitcoin_net.specs.Openings.{Opens};
+ghost use Rattle.rbitcoin_net.specs.Openings.{verdictNumber, Opens};
 ghost use Rattle.rbitcoin_net.specs.Rates.{rated, outputs, AnswersRates};
 ghost use Rattle.rbitcoin_net.specs.Readers.{Entries, RecentHashes};
 ghost use Rattle.rbitcoin_net.specs.Search.{looked, getIn};
 ghost use Rattle.exports.specs.Blocks.{blockOf, BlockIs};
 ghost use Rattle.exports.specs.Updates.{countNumber};
-ghost use Rattle.exports.specs.Updates.{verdictNumber};
+use crate::rate::refusal_number;
 use crate::windows::CountFields;
 use crate::windows::count_fields;
-use crate::windows::number_of;
 use rbitcoin_mempool::answer::Rate;
 use rbitcoin_net::fee_history::BlockAnswer;
 use rbitcoin_net::fee_history::BlockHash;
@@ -120,7 +119,7 @@ fn history_fields(u: HistoryUpdate) -> HistoryFields
     let outcome = u.outcome;
     let state = u.state;
     HistoryFields {
-        refusal: number_of(outcome),
+        refusal: refusal_number(outcome),
         state,
     }
 }

@@ -1,6 +1,6 @@
 // The fee flow meter.
 ghost use mathlib.Core.Path.{_≡_};
-ghost use Rattle.rbitcoin_mempool.specs.Meter.{halfLifeSecs, flowFullWu, opened, decayTo, fullness, admitRatesWuS, noteAdmit};
+ghost use Rattle.rbitcoin_mempool.specs.Meter.{halfLifeSecs, flowFullWu, newMeter, decayTo, fullness, admitRatesWuS, noteAdmit};
 use rbitcoin_mempool::fee_flow;
 use rbitcoin_mempool::fee_flow::FeeFlowMeter;
 
@@ -26,7 +26,7 @@ pub extern "C" fn juleyomu_flow_full_wu() -> f64
 
 #[no_mangle]
 pub extern "C" fn juleyomu_fee_flow_meter(now: u64) -> FeeFlowMeter
-    ensures { λ r. ⌜ r ≡ opened now ⌝ }
+    ensures { λ r. ⌜ r ≡ newMeter now ⌝ }
 {
     FeeFlowMeter::new(now)
 }

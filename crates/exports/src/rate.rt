@@ -1,7 +1,10 @@
 // An answer for a caller in another language.
 ghost use mathlib.Core.Path.{_≡_};
 ghost use Rattle.rbitcoin_mempool.specs.Answer.{answer};
+ghost use Rattle.rbitcoin_mempool.specs.Outcome.{verdict};
+ghost use Rattle.rbitcoin_net.specs.Openings.{verdictNumber};
 ghost use Rattle.exports.specs.Fields.{Fields};
+use rbitcoin_mempool::answer::Outcome;
 use rbitcoin_mempool::answer::RateAnswer;
 
 // The number of a refusal or 0; 1 where a rate is there and 0 where it is missing; the rate or 0.
@@ -10,6 +13,16 @@ pub struct RateFields {
     pub refusal: u8,
     pub mark: u8,
     pub rate: u64,
+}
+
+// The number of a refusal or 0.
+pub(crate) fn refusal_number(o: Outcome) -> u8
+    ensures { λ r. ⌜ r ≡ verdictNumber (verdict o) ⌝ }
+{
+    match o {
+        Outcome::Done => 0,
+        Outcome::Refused(refusal) => refusal,
+    }
 }
 
 pub(crate) fn rate_fields(a: RateAnswer) -> RateFields

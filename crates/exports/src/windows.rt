@@ -9,12 +9,13 @@ ghost use Rattle.rbitcoin_mempool.specs.Nearest.{analogBand};
 ghost use Rattle.rbitcoin_mempool.specs.Quantile.{historicalConfidenceFar, logQuantile, logQuantileLeaves};
 ghost use Rattle.rbitcoin_mempool.specs.Windows.{windows, openRefusal, opened, stateRefusal, pushRefusalOf, pushBackOf, pushFrontOf, popBackOf, popFrontOf, rebuildRefusalOf, rebuiltOf, pairCount};
 ghost use Rattle.rbitcoin_mempool.specs.Scan.{rateSatKvb, ScratchAfter};
+ghost use Rattle.rbitcoin_net.specs.Openings.{verdictNumber};
 ghost use Rattle.exports.specs.Fields.{Fields};
-ghost use Rattle.exports.specs.Updates.{verdictNumber, countRefusal, countNumber};
+ghost use Rattle.exports.specs.Updates.{countRefusal, countNumber};
 use crate::rate::RateFields;
 use crate::rate::rate_fields;
+use crate::rate::refusal_number;
 use rbitcoin_mempool::answer::CountAnswer;
-use rbitcoin_mempool::answer::Outcome;
 use rbitcoin_mempool::fee_analog;
 use rbitcoin_mempool::fee_analog::AnalogHistory;
 use rbitcoin_mempool::fee_analog::Update;
@@ -33,22 +34,13 @@ pub struct CountFields {
     pub count: usize,
 }
 
-pub(crate) fn number_of(o: Outcome) -> u8
-    ensures { λ r. ⌜ r ≡ verdictNumber (verdict o) ⌝ }
-{
-    match o {
-        Outcome::Done => 0,
-        Outcome::Refused(refusal) => refusal,
-    }
-}
-
 fn update_fields(u: Update) -> UpdateFields
     ensures { λ r. ⌜ (r .refusal ≡ verdictNumber (verdict (u .outcome))) × (r .state ≡ u .state) ⌝ }
 {
     let outcome = u.outcome;
     let state = u.state;
     UpdateFields {
-        refusal: number_of(outcome),
+        refusal: refusal_number(outcome),
         state,
     }
 }

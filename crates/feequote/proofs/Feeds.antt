@@ -6,11 +6,11 @@ use mathlib.Core.List.{List, [], _++_}
 use lib.ListN.{length, take, drop}
 use lib.Seq.{take-at}
 use Rattle.quote_lines.specs.Format.{Input}
-use Rattle.quote_lines.specs.Store.{State, Kept, stateOf, opened, zeros, fed, finished, seen}
+use Rattle.quote_lines.specs.Store.{State, Kept, stateOf, newReader, zeros, fed, finished, seen}
 use Rattle.quote_lines.proofs.Keeps.{fed-none, fed-append}
 use Rattle.quote_lines.proofs.Inputs.{reads}
 use Rattle.quote_board.specs.Text.{Wrote, behind, text, feequote}
-use Rattle.feequote.specs.Reads.{Fed, Quoted, TextOfSome}
+use Rattle.feequote.specs.Reads.{Fed, TextWritten, TextOfSome}
 
 pub fed-still : (s : State) → Fed s s
 fed-still s = record { bytes = []; reached = sym (fed-none s) }
@@ -23,7 +23,7 @@ fed-on {s} a b =
     }
 
 -- the text of what was fed, from the state at the end of the input
-pub quoted : (d d' : List ℕ) (n : ℕ) (k : Kept) {s : State} → Fed (stateOf opened zeros zeros zeros zeros) s → k ≡ finished s → Wrote d 0 (text (seen k)) d' n → Quoted d n d'
+pub quoted : (d d' : List ℕ) (n : ℕ) (k : Kept) {s : State} → Fed (stateOf newReader zeros zeros zeros zeros) s → k ≡ finished s → Wrote d 0 (text (seen k)) d' n → TextWritten d n d'
 unfolding feequote
 quoted d d' n k f e w =
     record {
@@ -33,7 +33,7 @@ quoted d d' n k f e w =
     }
 
 -- what was written from the start is the text
-pub quoted-text : {d d' : List ℕ} {n : ℕ} → Quoted d n d' → TextOfSome (take n d')
+pub quoted-text : {d d' : List ℕ} {n : ℕ} → TextWritten d n d' → TextOfSome (take n d')
 unfolding behind
 quoted-text {d} {d'} {n} q =
     let t = feequote (q .input) in

@@ -27,13 +27,13 @@ Through s (whole.the-variants.Read q) ds rs ms ts = Fed s (stateOf q ds rs ms ts
 Through s whole.the-variants.Failed ds rs ms ts = (q : Reader) × Fed s (stateOf q ds rs ms ts)
 
 -- the text of some input was written from the start of d, up to n
-pub record Quoted (d : List ℕ) (n : ℕ) (d' : List ℕ) : Type 0 where
+pub record TextWritten (d : List ℕ) (n : ℕ) (d' : List ℕ) : Type 0 where
   pub input : List ℕ
   pub wrote : Wrote d 0 (feequote input) d' n
 
 -- what the program has to write, or that a read failed
 abbrev pub Answered : List ℕ → answer.Answer → List ℕ → Type 0
-Answered d (answer.the-variants.Written n) d' = Quoted d n d'
+Answered d (answer.the-variants.Written n) d' = TextWritten d n d'
 Answered d answer.the-variants.Unread d' = d' ≡ d
 
 -- the text of some input

@@ -1,7 +1,7 @@
 // Reads depth rates and targets from standard input and writes the quotes, or the first bad line
 // (document 01, case M). The text that is written for an input is `quote_board`'s definition
 // `feequote`; here stand the calls that read and write.
-ghost use Rattle.quote_lines.specs.Store.{stateOf, opened};
+ghost use Rattle.quote_lines.specs.Store.{stateOf, newReader};
 ghost use Rattle.feequote.specs.Reads.{Fed, readerAfter, Through, Answered, TextOfSome};
 use libc::STDERR_FILENO;
 use libc::STDIN_FILENO;
@@ -58,7 +58,7 @@ fn read_all(
     marks: &mut [u8; 64],
     targets: &mut [u32; 64],
 ) -> Whole
-    ensures { λ w. ⌜ Through (stateOf opened (now (depths .entry)) (now (rates .entry)) (now (marks .entry)) (now (targets .entry))) w (now (depths .exit)) (now (rates .exit)) (now (marks .exit)) (now (targets .exit)) ⌝ }
+    ensures { λ w. ⌜ Through (stateOf newReader (now (depths .entry)) (now (rates .entry)) (now (marks .entry)) (now (targets .entry))) w (now (depths .exit)) (now (rates .exit)) (now (marks .exit)) (now (targets .exit)) ⌝ }
 {
     let mut r = new();
     let mut turns = u64::MAX;

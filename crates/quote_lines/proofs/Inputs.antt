@@ -13,7 +13,7 @@ use borrow.Author.Tests.{eq-eqb, ne-eqb, ltb-true, ltb-false, eqb-true, eqb-fals
 use Rattle.quote_lines.specs.Bytes.{newline, space, dash, letterD, letterT, isDigit, shifted}
 use Rattle.quote_lines.specs.Format.{onto, lines, Said, entry, target, ill, says, Board, last, accept, Input, board, badLine, orBadLine, readLines, parse}
 use Rattle.quote_lines.specs.Machine.{digitsOn, grown, kindOf, within, rateOf, next}
-use Rattle.quote_lines.specs.Store.{Kept, kept, asBad, markBad, lastDepth, entryFits, keepEntry, keepTarget, keepGood, keepLine, state, stateOf, opened, atLineStart, byteRead, fed, finished, boardOf, seen}
+use Rattle.quote_lines.specs.Store.{Kept, kept, asBad, markBad, lastDepth, entryFits, keepEntry, keepTarget, keepGood, keepLine, state, stateOf, newReader, atLineStart, byteRead, fed, finished, boardOf, seen}
 use Rattle.quote_lines.specs.declared.field.Field.{Field}
 use Rattle.quote_lines.specs.declared.field.Field.the-variants.{Empty, LetterD, LetterT, Dash, Number, Other}
 use Rattle.quote_lines.specs.declared.line.Line.{Line}
@@ -305,11 +305,11 @@ seen-lines (p ∷ ps) k g = ap (λ (j : Kept). seen (keepLines j ps)) (line-said
 
 -- a whole input, whatever the arrays held before
 module _ (ds rs ms ts : List ℕ) (ld : length ds ≡ 64) (lr : length rs ≡ 64) (lm : length ms ≡ 64) (lt : length ts ≡ 64) where
-  pub reads : (bs : List ℕ) → seen (finished (fed (stateOf opened ds rs ms ts) bs)) ≡ parse bs
+  pub reads : (bs : List ℕ) → seen (finished (fed (stateOf newReader ds rs ms ts) bs)) ≡ parse bs
   unfolding parse lineNumber boardOf
   reads bs =
-      ap seen (fed-lines bs (kept (opened .counts) ds rs ms ts))
-      ∙ seen-lines (lines bs) (kept (opened .counts) ds rs ms ts)
+      ap seen (fed-lines bs (kept (newReader .counts) ds rs ms ts))
+      ∙ seen-lines (lines bs) (kept (newReader .counts) ds rs ms ts)
       (record {
         long-depths = ld;
         long-rates = lr;

@@ -87,8 +87,8 @@ state l f k = record { line = l; field = f; keeps = k }
 abbrev pub stateOf : Reader → List ℕ → List ℕ → List ℕ → List ℕ → State
 stateOf r ds rs ms ts = state (r .line) (r .field) (kept (r .counts) ds rs ms ts)
 
-abbrev pub opened : Reader
-opened = record { line = Nothing; field = Empty; counts = record { depths = 0; targets = 0; bad = 0 } }
+abbrev pub newReader : Reader
+newReader = record { line = Nothing; field = Empty; counts = record { depths = 0; targets = 0; bad = 0 } }
 
 -- one byte more
 unfoldable pub byteRead : State → ℕ → State

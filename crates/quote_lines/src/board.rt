@@ -3,7 +3,7 @@
 ghost use mathlib.Core.Path.{_≡_};
 ghost use mathlib.Core.List.{List};
 ghost use Prim.Native.Nat.{ℕ, _≤_};
-ghost use Rattle.quote_lines.specs.Store.{kept, keptOf, zeros, stateOf, lastDepth, markBad, keepEntry, keepTarget, keepLine, atLineStart, opened, byteRead, fed, finished, seen};
+ghost use Rattle.quote_lines.specs.Store.{kept, keptOf, zeros, stateOf, lastDepth, markBad, keepEntry, keepTarget, keepLine, atLineStart, newReader, byteRead, fed, finished, seen};
 ghost use Rattle.quote_lines.specs.Format.{parse};
 use crate::field::Field;
 use crate::field::grown;
@@ -136,7 +136,7 @@ fn keep_line(
 
 // Before the first byte.
 pub fn new() -> Reader
-    ensures { λ r. ⌜ r ≡ opened ⌝ }
+    ensures { λ r. ⌜ r ≡ newReader ⌝ }
 {
     Reader {
         line: Line::Nothing,
@@ -248,7 +248,7 @@ pub fn finish(
 
 // A whole input.
 pub fn read(input: &[u8]) -> Board
-    ensures { λ r. ⌜ keptOf r ≡ finished (fed (stateOf opened zeros zeros zeros zeros) (now (input .entry))) ⌝ }
+    ensures { λ r. ⌜ keptOf r ≡ finished (fed (stateOf newReader zeros zeros zeros zeros) (now (input .entry))) ⌝ }
     ensures { λ r. ⌜ seen (keptOf r) ≡ parse (now (input .entry)) ⌝ }
 {
     let mut depths = [0u32; 64];

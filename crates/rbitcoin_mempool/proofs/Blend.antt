@@ -14,7 +14,7 @@ use Rattle.num.specs.Round.{roundToU64}
 use Rattle.num.proofs.Near.{Close, Rounded, Half, unit, unit-pos, round-near}
 use Rattle.num.proofs.Values.{mul-value, add-value, sub-value}
 use Rattle.num.proofs.Whole.{whole-value, round-half}
-use Rattle.rbitcoin_mempool.specs.Depths.{one64, mix}
+use Rattle.rbitcoin_mempool.specs.Depths.{one64, blended}
 
 -- ---- the errors added up
 -- a fraction whose denominator is the unit
@@ -155,20 +155,20 @@ terms v p q a b Q l h A B =
     let y = prod-rounded (sub binary64 one64 v) (w .g) unit b unit-pos (under-one (w .g) unit (w .close .top)) B (w .value) in
     record { first = x .g; second = y .g; first-value = x .value; second-value = y .value }
 
-pub blend-near : (v : Float) (p q a b : ℕ) → 0 < q → p ≤ q → HasValue v false p q → a ≤ 2 ^ 50 → b ≤ 2 ^ 50 → Blend (mix v a b) p q a b
-unfolding mix
+pub blend-near : (v : Float) (p q a b : ℕ) → 0 < q → p ≤ q → HasValue v false p q → a ≤ 2 ^ 50 → b ≤ 2 ^ 50 → Blend (blended v a b) p q a b
+unfolding blended
 blend-near v p q a b Q l h A B =
     let w = diff-rounded v p q Q l h in
     let x = prod-rounded v p q a Q l A h in
     let y = prod-rounded (sub binary64 one64 v) (w .g) unit b unit-pos (under-one (w .g) unit (w .close .top)) B (w .value) in
     let s = sum-rounded (mul binary64 v (ofU64 a)) (mul binary64 (sub binary64 one64 v) (ofU64 b)) (x .g) (y .g) (x .close .top) (y .close .top) (x .value) (y .value) in
     let m = near-whole (add binary64 (mul binary64 v (ofU64 a)) (mul binary64 (sub binary64 one64 v) (ofU64 b))) (s .g) (s .close .top) (s .value) in
-    let t = total p (q - p) q a b unit (w .g) (x .g) (y .g) (s .g) (mix v a b) Q unit-pos B (w .close) (x .close) (y .close) (s .close) m in
+    let t = total p (q - p) q a b unit (w .g) (x .g) (y .g) (s .g) (blended v a b) Q unit-pos B (w .close) (x .close) (y .close) (s .close) m in
     let e : p + (q - p) ≡ q = add-sub-of-le l in
     record {
       over = t .over;
       under = t .under;
-      below = λ h i j. within-hi (mix v a b) p (q - p) q a b h Q e i j t;
-      above = λ h i j. within-lo (mix v a b) p (q - p) q a b h Q e i j t;
-      top = within-hi (mix v a b) p (q - p) q a b (2 ^ 50) Q e A B t;
+      below = λ h i j. within-hi (blended v a b) p (q - p) q a b h Q e i j t;
+      above = λ h i j. within-lo (blended v a b) p (q - p) q a b h Q e i j t;
+      top = within-hi (blended v a b) p (q - p) q a b (2 ^ 50) Q e A B t;
     }

@@ -12,13 +12,13 @@ use Rattle.rbitcoin_mempool.specs.Edges.{series, edgeAt, firstAbove, buc
 use Rattle.rbitcoin_mempool.specs.Capacity.{effectiveCapacityWu, inflowWu, inflowSuffixWu, stressedWu, fitsWith, fits, leastFitting, minRateForCapacity}
 use Rattle.rbitcoin_mempool.specs.Percentile.{percentileSat}
 use Rattle.rbitcoin_mempool.specs.Rates.{ratesOf, marksValid}
-use Rattle.rbitcoin_mempool.specs.Depths.{mixed, clampedShare, blendBy, warmupBlend}
-use Rattle.rbitcoin_mempool.specs.Hold.{noMore, enforceMonotoneDesc, held, defined, putBack, holdDefinedThenMonotone, neverDescends}
+use Rattle.rbitcoin_mempool.specs.Depths.{warmed, clampedShare, blendBy, warmupBlend}
+use Rattle.rbitcoin_mempool.specs.Hold.{noMore, enforceMonotoneDesc, fillHoles, defined, putBack, holdDefinedThenMonotone, neverDescends}
 use Rattle.rbitcoin_mempool.specs.Target.{nearestQuotient, lerpSatKvb, lastThere, atIndex, atTarget, feeAtTarget, feeAtTargetSatKvb}
 use Rattle.rbitcoin_mempool.specs.Median.{analogLookback, medianOf, lowerMedian}
 
 pub cases : Cases
-unfolding seek series edgeAt firstAbove bucketIndex firstBucketAbove effectiveCapacityWu tabulate insert sorted inflowWu inflowSuffixWu stressedWu fitsWith fits leastFitting minRateForCapacity percentileSat analogLookback medianOf lowerMedian every ratesOf marksValid noMore enforceMonotoneDesc held defined putBack holdDefinedThenMonotone neverDescends nearestQuotient lerpSatKvb lastThere atIndex atTarget feeAtTarget feeAtTargetSatKvb mixed clampedShare blendBy warmupBlend clampOf roundToU64 add sub mul lt le ofBits ofInt toUnsigned
+unfolding seek series edgeAt firstAbove bucketIndex firstBucketAbove effectiveCapacityWu tabulate insert sorted inflowWu inflowSuffixWu stressedWu fitsWith fits leastFitting minRateForCapacity percentileSat analogLookback medianOf lowerMedian every ratesOf marksValid noMore enforceMonotoneDesc fillHoles defined putBack holdDefinedThenMonotone neverDescends nearestQuotient lerpSatKvb lastThere atIndex atTarget feeAtTarget feeAtTargetSatKvb warmed clampedShare blendBy warmupBlend clampOf roundToU64 add sub mul lt le ofBits ofInt toUnsigned
 cases =
     record {
       case-A = (refl, refl, refl, refl, refl, refl);

@@ -16,11 +16,11 @@ use Rattle.rbitcoin_mempool.specs.Edges.{edgeAt, firstAbove, bucketIndex
 use Rattle.rbitcoin_mempool.specs.declared.fee_flow.FeeFlowMeter.{FeeFlowMeter}
 use Rattle.rbitcoin_mempool.proofs.fee_flow.FeeFlowMeter as T
 use Rattle.rbitcoin_mempool.proofs.fee_flow.FeeFlowMeter.Laws as T′
-use Rattle.rbitcoin_mempool.specs.Meter.{leastSecs, gap, kept, decayed, opened}
+use Rattle.rbitcoin_mempool.specs.Meter.{leastSecs, gap, shareLeft, decayed, newMeter}
 
 -- every rate of a new meter is 0
-pub opened-zero : (now k : ℕ) → k < 402 → getD (opened now .«admit_wu_s») k nan ≡ ofU64 0
-opened-zero now k h = getD-replicate {A = Float} 402 k (ofU64 0) nan h
+pub newMeter-zero : (now k : ℕ) → k < 402 → getD (newMeter now .«admit_wu_s») k nan ≡ ofU64 0
+newMeter-zero now k h = getD-replicate {A = Float} 402 k (ofU64 0) nan h
 
 -- the array of a meter that was passed has 402 rates
 pub rates-long : (m : FeeFlowMeter) → Is T.the-row m (LL.vals T.the-type T′.the-laws m) → length (m .«admit_wu_s») ≡ 402
@@ -30,7 +30,7 @@ pub decayed-none : (dt x : Float) → le dt (ofU64 0) ≡ true → decayed dt x 
 unfolding decayed
 decayed-none dt x h = rw h
 
-pub decayed-by : (dt x share : Float) → le dt (ofU64 0) ≡ false → (le dt (ofU64 0) ≡ false → share ≡ kept dt) → mul binary64 x share ≡ decayed dt x
+pub decayed-by : (dt x share : Float) → le dt (ofU64 0) ≡ false → (le dt (ofU64 0) ≡ false → share ≡ shareLeft dt) → mul binary64 x share ≡ decayed dt x
 unfolding decayed
 decayed-by dt x share h e = rw (h, e h)
 
@@ -81,12 +81,12 @@ unfolding maxOf
 max-first x y h = rw (number x y h, not-below x y h)
 
 -- the share since the last admission is the share since a clock that is the same, where the least time is not the greater
-pub same-share : (last la now : ℕ) (dt share since : Float) → dt ≡ maxOf (gap la now) leastSecs → share ≡ kept dt → since ≡ gap last now → last ≡ la → le leastSecs since ≡ true
-    → share ≡ kept (gap last now)
+pub same-share : (last la now : ℕ) (dt share since : Float) → dt ≡ maxOf (gap la now) leastSecs → share ≡ shareLeft dt → since ≡ gap last now → last ≡ la → le leastSecs since ≡ true
+    → share ≡ shareLeft (gap last now)
 same-share last la now dt share since d s g e h =
     let l : gap la now ≡ gap last now = ap (λ (n : ℕ). gap n now) (sym e) in
     let h′ : le leastSecs (gap last now) ≡ true = rw g at h in
-    s ∙ ap kept (d ∙ rw l (max-first (gap last now) leastSecs h′))
+    s ∙ ap shareLeft (d ∙ rw l (max-first (gap last now) leastSecs h′))
 
 -- ---- the bucket is a place of the rates
 seek-le : (p : ℕ → Bool) (i n : ℕ) → seek p i n ≤ i + n

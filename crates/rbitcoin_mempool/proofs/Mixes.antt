@@ -19,13 +19,13 @@ use Rattle.num.proofs.Finite.{round-zero}
 use Rattle.num.proofs.Near.{unit, unit-pos}
 use Rattle.num.proofs.Values.{add-value, mul-value}
 use Rattle.num.proofs.Whole.{whole-value, round-value}
-use Rattle.rbitcoin_mempool.specs.Depths.{one64, mix, mixed}
-use Rattle.rbitcoin_mempool.specs.Exact.{InUnit, whole, weight, blend, Within}
+use Rattle.rbitcoin_mempool.specs.Depths.{one64, blended, warmed}
+use Rattle.rbitcoin_mempool.specs.Exact.{InUnit, asFrac, weight, blend, Within}
 use Rattle.rbitcoin_mempool.proofs.Blend.{Blend, terms, blend-near}
 
 -- m is near v·a + (1-v)·b, and at most 2 ^ 50
 pub record Mixed (m : ℕ) (v : Float) (a b : ℕ) : Type 0 where
-  pub near : Within 1 m (blend (weight v) (whole a) (whole b))
+  pub near : Within 1 m (blend (weight v) (asFrac a) (asFrac b))
   pub top : m ≤ 2 ^ 50
 
 over : (m p r q a b : ℕ) → m * q < p * a + r * b + q → m * (q * (1 * 1)) < p * a * 1 + r * b * 1 + 1 * (q * (1 * 1))
@@ -46,11 +46,11 @@ mixed-of x m e a b h =
       top = h .top;
     }
 
-pub mix-near : (v : Float) (a b : ℕ) → UpTo 1 1 v → a ≤ 2 ^ 50 → b ≤ 2 ^ 50 → Mixed (mix v a b) v a b
-mix-near nan a b u A B = absurd u
-mix-near (inf s) a b u A B = absurd u
-mix-near (fin true m e) a b u A B = absurd u
-mix-near (fin false m e) a b u A B = mixed-of _ m e a b (blend-near (fin false m e) (m * up e) (down e) a b (down-pos e) (omega arith) (refl, refl) A B)
+pub blended-near : (v : Float) (a b : ℕ) → UpTo 1 1 v → a ≤ 2 ^ 50 → b ≤ 2 ^ 50 → Mixed (blended v a b) v a b
+blended-near nan a b u A B = absurd u
+blended-near (inf s) a b u A B = absurd u
+blended-near (fin true m e) a b u A B = absurd u
+blended-near (fin false m e) a b u A B = mixed-of _ m e a b (blend-near (fin false m e) (m * up e) (down e) a b (down-pos e) (omega arith) (refl, refl) A B)
 
 -- ---- with the terms in the other order
 swapped : (x y : Float) (X Y : ℕ) → HasValue x false X unit → HasValue y false Y unit → add binary64 y x ≡ add binary64 x y
@@ -59,8 +59,8 @@ swapped x y X Y h k =
     ∙ ap (λ (z : ℕ). round binary64 false z (unit * unit)) (add-comm (Y * unit) (X * unit))
     ∙ sym (add-value binary64 x y X unit Y unit unit-pos unit-pos h k)
 
-other-order : (v : Float) (p q a b : ℕ) → 0 < q → p ≤ q → HasValue v false p q → a ≤ 2 ^ 50 → b ≤ 2 ^ 50 → mixed v b a ≡ mix v a b
-unfolding mix mixed
+other-order : (v : Float) (p q a b : ℕ) → 0 < q → p ≤ q → HasValue v false p q → a ≤ 2 ^ 50 → b ≤ 2 ^ 50 → warmed v b a ≡ blended v a b
+unfolding blended warmed
 other-order v p q a b Q l h A B =
     let t = terms v p q a b Q l h A B in
     ap roundToU64 (swapped (mul binary64 v (ofU64 a)) (mul binary64 (sub binary64 one64 v) (ofU64 b)) (t .first) (t .second) (t .first-value) (t .second-value))
@@ -100,8 +100,8 @@ one-times b l =
 nearest-is : (b : ℕ) → b ≤ 2 ^ 50 → min ((b * 2 + 1) / (1 * 2)) (2 ^ 64 - 1) ≡ b
 nearest-is b l = omega arith
 
-second-only : (m : ℕ) (e : ℤ) (a b : ℕ) → m * up e ≡ 0 → a ≤ 2 ^ 50 → b ≤ 2 ^ 50 → mixed (fin true m e) b a ≡ b
-unfolding mixed
+second-only : (m : ℕ) (e : ℤ) (a b : ℕ) → m * up e ≡ 0 → a ≤ 2 ^ 50 → b ≤ 2 ^ 50 → warmed (fin true m e) b a ≡ b
+unfolding warmed
 second-only m e a b z A B =
     let v = fin true m e in
     let x : add binary64 (mul binary64 (sub binary64 one64 v) (ofU64 b)) (mul binary64 v (ofU64 a)) ≡ add binary64 (mul binary64 one64 (ofU64 b)) (fin true 0 (pos 0)) =
@@ -109,13 +109,13 @@ second-only m e a b z A B =
     let L : b ≤ 2 ^ 53 = le-trans B (lit≤ tt) in
     ap roundToU64 x ∙ round-value _ b 1 (lit< tt) (plus-zero (mul binary64 one64 (ofU64 b)) b L (one-times b L)) ∙ nearest-is b B
 
-pub mixed-near : (v : Float) (a b : ℕ) → InUnit v → a ≤ 2 ^ 50 → b ≤ 2 ^ 50 → Mixed (mixed v b a) v a b
+pub warmed-near : (v : Float) (a b : ℕ) → InUnit v → a ≤ 2 ^ 50 → b ≤ 2 ^ 50 → Mixed (warmed v b a) v a b
 unfolding blend
-mixed-near nan a b u A B = absurd u
-mixed-near (inf s) a b u A B = absurd u
-mixed-near (fin false m e) a b u A B =
+warmed-near nan a b u A B = absurd u
+warmed-near (inf s) a b u A B = absurd u
+warmed-near (fin false m e) a b u A B =
     subst (λ (x : ℕ). Mixed x (fin false m e) a b) (sym (other-order (fin false m e) (m * up e) (down e) a b (down-pos e) u (refl, refl) A B))
     (mixed-of _ m e a b (blend-near (fin false m e) (m * up e) (down e) a b (down-pos e) u (refl, refl) A B))
-mixed-near (fin true m e) a b u A B =
+warmed-near (fin true m e) a b u A B =
     subst (λ (x : ℕ). Mixed x (fin true m e) a b) (sym (second-only m e a b u A B))
     (record { near = record { pos = lit< tt; over = omega arith; under = omega arith }; top = B })

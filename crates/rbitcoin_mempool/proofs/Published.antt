@@ -8,16 +8,16 @@ use mathlib.Core.Option.{Option, none, some}
 use lib.Dec.{leb, lit<}
 use lib.Ieee.{Float, nan, inf, fin, le}
 use borrow.Author.Tests.{leb-true, leb-false}
-use Rattle.rbitcoin_mempool.specs.Depths.{one64, half64, blendWeight, flowForDepth, mixed, or, greater, blendSatKvb, clampedShare, blendBy, warmupBlend, coldRate, warmRate, floored, publishedDepthRate}
-use Rattle.rbitcoin_mempool.specs.Exact.{InUnit, Frac, whole, wholes, weight, blend, greaterFrac, Within, Both, BoundedRate, exactBlend, exactWarm, exactFloor, exactBy, exactPublished}
-use Rattle.rbitcoin_mempool.proofs.Mixes.{mix-near, mixed-near}
+use Rattle.rbitcoin_mempool.specs.Depths.{one64, half64, blendWeight, flowForDepth, warmed, or, greater, blendSatKvb, clampedShare, blendBy, warmupBlend, coldRate, warmRate, floored, publishedDepthRate}
+use Rattle.rbitcoin_mempool.specs.Exact.{InUnit, Frac, asFrac, asFracs, weight, blend, greaterFrac, Within, Both, BoundedRate, exactBlend, exactWarm, exactFloor, exactBy, exactPublished}
+use Rattle.rbitcoin_mempool.proofs.Mixes.{blended-near, warmed-near}
 use Rattle.rbitcoin_mempool.proofs.Units.{share-in, weight-up-to}
 
 -- ---- whole numbers and bounds
-pub itself : (k n : ℕ) → 0 < k → Within k n (whole n)
+pub itself : (k n : ℕ) → 0 < k → Within k n (asFrac n)
 itself k n h = record { pos = lit< tt; over = omega arith; under = omega arith }
 
-selves : (k : ℕ) → 0 < k → (o : Option ℕ) → Both (Within k) o (wholes o)
+selves : (k : ℕ) → 0 < k → (o : Option ℕ) → Both (Within k) o (asFracs o)
 selves k h none = tt
 selves k h (some n) = itself k n h
 
@@ -56,13 +56,13 @@ bounded-cold f (some h) a b = bounded-greater (some h) f b a
 module _ (n : ℕ) (N : n ≤ 2 ^ 53) where
   pub blend-beside : (flow hist : Option ℕ) → BoundedRate flow → BoundedRate hist → Both (Within 1) (blendSatKvb flow hist n) (exactBlend flow hist n)
   unfolding blendSatKvb exactBlend
-  blend-beside (some f) (some h) a b = mix-near (blendWeight n) f h (weight-up-to n N) a b .near
+  blend-beside (some f) (some h) a b = blended-near (blendWeight n) f h (weight-up-to n N) a b .near
   blend-beside (some f) none a b = itself 1 f (lit< tt)
   blend-beside none h a b = selves 1 (lit< tt) h
 
   bounded-blend : (flow hist : Option ℕ) → BoundedRate flow → BoundedRate hist → BoundedRate (blendSatKvb flow hist n)
   unfolding blendSatKvb
-  bounded-blend (some f) (some h) a b = mix-near (blendWeight n) f h (weight-up-to n N) a b .top
+  bounded-blend (some f) (some h) a b = blended-near (blendWeight n) f h (weight-up-to n N) a b .top
   bounded-blend (some f) none a b = a
   bounded-blend none h a b = b
 
@@ -70,7 +70,7 @@ module _ (n : ℕ) (N : n ≤ 2 ^ 53) where
   unfolding warmRate exactWarm
   warm-beside flow hist a b = go (leb n 1)
     where
-      go : (t : Bool) → Both (Within 1) (cond t (or flow hist) (blendSatKvb flow hist n)) (cond t (wholes (or flow hist)) (exactBlend flow hist n))
+      go : (t : Bool) → Both (Within 1) (cond t (or flow hist) (blendSatKvb flow hist n)) (cond t (asFracs (or flow hist)) (exactBlend flow hist n))
       go true = selves 1 (lit< tt) (or flow hist)
       go false = blend-beside flow hist a b
 
@@ -83,15 +83,15 @@ module _ (n : ℕ) (N : n ≤ 2 ^ 53) where
       go false = bounded-blend flow hist a b
 
 -- ---- the confirm floor: the greater of two keeps the distance
-floor-near : (a c : ℕ) (A : Frac) → Within 1 a A → Within 1 (max a c) (greaterFrac A (whole c))
+floor-near : (a c : ℕ) (A : Frac) → Within 1 a A → Within 1 (max a c) (greaterFrac A (asFrac c))
 floor-near a c A h = go (leb (A .num * 1) (c * A .den)) refl
   where
-    go : (t : Bool) → leb (A .num * 1) (c * A .den) ≡ t → Within 1 (max a c) (cond t (whole c) A)
+    go : (t : Bool) → leb (A .num * 1) (c * A .den) ≡ t → Within 1 (max a c) (cond t (asFrac c) A)
     go true e =
         let l = leb-true (A .num * 1) (c * A .den) e in
         let b : a < c + 1 = lt-of-mul-lt-mul-right (A .den) {m = a} {n = c + 1} (omega (arith, h .over)) in
         let q : max a c ≡ c = omega arith in
-        subst (λ (z : ℕ). Within 1 z (whole c)) (sym q) (itself 1 c (lit< tt))
+        subst (λ (z : ℕ). Within 1 z (asFrac c)) (sym q) (itself 1 c (lit< tt))
     go false e = by (leb a c) refl (leb-false (A .num * 1) (c * A .den) e)
       where
         by : (u : Bool) → leb a c ≡ u → c * A .den < A .num * 1 → Within 1 (max a c) A
@@ -129,7 +129,7 @@ down-by m w c p r q N D P l h k =
 first-pos : (q d : ℕ) → 0 < q * (1 * 1) → 0 < d → 0 < q * (d * 1)
 first-pos q d h k = mul-pos {m = q} {n = d * 1} (omega arith) (omega arith)
 
-composed : (m w c : ℕ) (v W : Frac) → v .num ≤ v .den → Within 1 w W → Within 1 m (blend v (whole w) (whole c)) → Within 2 m (blend v W (whole c))
+composed : (m w c : ℕ) (v W : Frac) → v .num ≤ v .den → Within 1 w W → Within 1 m (blend v (asFrac w) (asFrac c)) → Within 2 m (blend v W (asFrac c))
 unfolding blend
 composed m w c v W l h k =
     record {
@@ -146,7 +146,7 @@ weight-le (fin false m e) u = u
 
 pub share-beside : (a : Float) → InUnit a → (cold warm : Option ℕ) (W : Option Frac) → BoundedRate cold → BoundedRate warm → Both (Within 1) warm W → Both (Within 2) (blendBy a cold warm) (exactBy a cold W)
 unfolding blendBy exactBy
-share-beside a u (some c) (some w) (some W) C D h = composed (mixed a c w) w c (weight a) W (weight-le a u) h (mixed-near a w c u D C .near)
+share-beside a u (some c) (some w) (some W) C D h = composed (warmed a c w) w c (weight a) W (weight-le a u) h (warmed-near a w c u D C .near)
 share-beside a u none (some w) (some W) C D h = go (le one64 a)
   where
     go : (t : Bool) → Both (Within 2) (cond t (some w) none) (cond t (some W) none)
@@ -158,12 +158,12 @@ share-beside a u none none none C D h = tt
 share-beside a u (some c) none none C D h = itself 2 c (lit< tt)
 
 -- of its own arguments, whole numbers
-pub warmup-beside : (alpha : Float) (cold warm : Option ℕ) → BoundedRate cold → BoundedRate warm → Both (Within 1) (warmupBlend alpha cold warm) (exactBy (clampedShare alpha) cold (wholes warm))
+pub warmup-beside : (alpha : Float) (cold warm : Option ℕ) → BoundedRate cold → BoundedRate warm → Both (Within 1) (warmupBlend alpha cold warm) (exactBy (clampedShare alpha) cold (asFracs warm))
 unfolding warmupBlend blendBy exactBy
-warmup-beside alpha (some c) (some w) C D = mixed-near (clampedShare alpha) w c (share-in alpha) D C .near
+warmup-beside alpha (some c) (some w) C D = warmed-near (clampedShare alpha) w c (share-in alpha) D C .near
 warmup-beside alpha none (some w) C D = go (le one64 (clampedShare alpha))
   where
-    go : (t : Bool) → Both (Within 1) (cond t (some w) none) (cond t (some (whole w)) none)
+    go : (t : Bool) → Both (Within 1) (cond t (some w) none) (cond t (some (asFrac w)) none)
     go true = itself 1 w (lit< tt)
     go false = tt
 warmup-beside alpha none none C D = tt

@@ -12,12 +12,12 @@ use Rattle.slices.specs.Sorted.{sorted, atMost}
 use Rattle.slices.proofs.Sorting.{sorted-ascending, sorted-length, kth-at-most}
 use Rattle.slices.proofs.Halves.{tally-le}
 use Rattle.rbitcoin_mempool.specs.Answer.{rate, refusal}
-use Rattle.rbitcoin_mempool.specs.Quantile.{rankOf, lowerPlace, upperPlace, between, atRank, quantileOf, inUnit, logQuantile, logQuantileLeaves}
+use Rattle.rbitcoin_mempool.specs.Quantile.{rankOf, lowerPlace, upperPlace, betweenNeighbors, atRank, quantileOf, inUnit, logQuantile, logQuantileLeaves}
 
 module _ (c : Float) where
   -- from the two neighbours
   pub quantile-by : (xs : List ℕ) (r : Float) (k l a b q : ℕ) → r ≡ rankOf c (length xs) → k ≡ lowerPlace r → l ≡ upperPlace r
-      → a ≡ getD (sorted xs) k 0 → b ≡ getD (sorted xs) l 0 → q ≡ between a b r → q ≡ quantileOf xs c
+      → a ≡ getD (sorted xs) k 0 → b ≡ getD (sorted xs) l 0 → q ≡ betweenNeighbors a b r → q ≡ quantileOf xs c
   unfolding quantileOf atRank
   quantile-by xs r k l a b q e f g h i j = rw (← e, ← f, ← g, ← h, ← i) j
 

@@ -25,7 +25,7 @@ use Rattle.num.proofs.Sign.{unsigned, round-neg, round-unsigned}
 use Rattle.num.proofs.Whole.{whole-value}
 use Rattle.num.proofs.Value.{whole-of-value}
 use Rattle.num.proofs.Values.{sub-value}
-use Rattle.rbitcoin_mempool.specs.Quantile.{rankOf, lowerPlace, upperPlace, blendOf, between, atRank, quantileOf, inUnit}
+use Rattle.rbitcoin_mempool.specs.Quantile.{rankOf, lowerPlace, upperPlace, blendOf, betweenNeighbors, atRank, quantileOf, inUnit}
 
 -- a finite float from 1 to n
 pub record Inside (r : Float) (n : ℕ) : Type 0 where
@@ -251,8 +251,8 @@ module _ (b : ℕ) (r : Float) (n : ℕ) (i : Inside r n) (l : n ≤ 2 ^ 53) whe
   blend-zero = rw (no-log, i .is) (sunk _ _ (weighed _ (fraction (i .m) (i .e) n (i .high) l)))
 
   -- "The quantile of a list whose lower neighbour is 0 and upper isn't is 0"
-  pub zero-below : between 0 b r ≡ 0
-  unfolding between
+  pub zero-below : betweenNeighbors 0 b r ≡ 0
+  unfolding betweenNeighbors
   zero-below = go (eqb 0 b)
     where
       go : (t : Bool) → cond t 0 (blendOf 0 b (sub binary64 r (floorOf r))) ≡ 0

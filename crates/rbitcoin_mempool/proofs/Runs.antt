@@ -11,7 +11,7 @@ use mathlib.Core.Bool.{Bool, true, false, not, cond}
 use lib.Dec.{T, leb, leb→le, nleb→lt}
 use lib.ListN.{length, getD}
 use Rattle.slices.specs.Lists.{tabulate}
-use Rattle.rbitcoin_mempool.specs.Hold.{noMore, enforceMonotoneDesc, held, defined, putBack, holdDefinedThenMonotone}
+use Rattle.rbitcoin_mempool.specs.Hold.{noMore, enforceMonotoneDesc, fillHoles, defined, putBack, holdDefinedThenMonotone}
 use Rattle.rbitcoin_mempool.specs.Exact.{Frac, lesserFrac, Within, Both, least, leastSoFar}
 
 -- ---- two lists, value by value
@@ -116,20 +116,20 @@ least-length f x (y ∷ ys) = ap suc (least-length f (least f x y) ys)
 
 -- ---- the hold pass
 -- v is the last rate that is there, m the least so far
-after : (v m : ℕ) (os : List (Option ℕ)) → m ≤ v → putBack (held (some v) os) (noMore m (defined (held (some v) os))) ≡ leastSoFar min (some m) os
-unfolding held defined noMore putBack leastSoFar
+after : (v m : ℕ) (os : List (Option ℕ)) → m ≤ v → putBack (fillHoles (some v) os) (noMore m (defined (fillHoles (some v) os))) ≡ leastSoFar min (some m) os
+unfolding fillHoles defined noMore putBack leastSoFar
 after v m [] h = refl
 after v m (some x ∷ os) h =
     let e : min x m ≡ min m x = min-comm x m in
-    ap (λ (z : ℕ). some z ∷ putBack (held (some x) os) (noMore z (defined (held (some x) os)))) e
+    ap (λ (z : ℕ). some z ∷ putBack (fillHoles (some x) os) (noMore z (defined (fillHoles (some x) os)))) e
     ∙ ap (λ (l : List (Option ℕ)). some (min m x) ∷ l) (after x (min m x) os (omega arith))
 after v m (none ∷ os) h =
     let e : min v m ≡ m = omega arith in
-    ap (λ (z : ℕ). some z ∷ putBack (held (some v) os) (noMore z (defined (held (some v) os)))) e
+    ap (λ (z : ℕ). some z ∷ putBack (fillHoles (some v) os) (noMore z (defined (fillHoles (some v) os)))) e
     ∙ ap (λ (l : List (Option ℕ)). some m ∷ l) (after v m os h)
 
 pub hold-is : (os : List (Option ℕ)) → holdDefinedThenMonotone os ≡ leastSoFar min none os
-unfolding holdDefinedThenMonotone enforceMonotoneDesc held defined noMore putBack leastSoFar
+unfolding holdDefinedThenMonotone enforceMonotoneDesc fillHoles defined noMore putBack leastSoFar
 hold-is [] = refl
 hold-is (none ∷ os) = ap (λ (l : List (Option ℕ)). none ∷ l) (hold-is os)
 hold-is (some x ∷ os) = ap (λ (l : List (Option ℕ)). some x ∷ l) (after x x os (le-refl x))

@@ -32,11 +32,11 @@ flowForDepth none (some f) n = some f
 flowForDepth p none n = cond (le half64 (blendWeight n)) p none
 
 -- the blend of two numbers by a weight v: 'v·a + (1-v)·b', and the same with the terms in the other order
-unfoldable pub mix : Float → ℕ → ℕ → ℕ
-mix v a b = roundToU64 (add binary64 (mul binary64 v (ofU64 a)) (mul binary64 (sub binary64 one64 v) (ofU64 b)))
+unfoldable pub blended : Float → ℕ → ℕ → ℕ
+blended v a b = roundToU64 (add binary64 (mul binary64 v (ofU64 a)) (mul binary64 (sub binary64 one64 v) (ofU64 b)))
 
-unfoldable pub mixed : Float → ℕ → ℕ → ℕ
-mixed v b a = roundToU64 (add binary64 (mul binary64 (sub binary64 one64 v) (ofU64 b)) (mul binary64 v (ofU64 a)))
+unfoldable pub warmed : Float → ℕ → ℕ → ℕ
+warmed v b a = roundToU64 (add binary64 (mul binary64 (sub binary64 one64 v) (ofU64 b)) (mul binary64 v (ofU64 a)))
 
 -- the first of two rates that is there
 abbrev pub or : Option ℕ → Option ℕ → Option ℕ
@@ -51,7 +51,7 @@ greater none b = b
 
 -- `blend_sat_kvb`
 unfoldable pub blendSatKvb : Option ℕ → Option ℕ → ℕ → Option ℕ
-blendSatKvb (some f) (some h) n = some (mix (blendWeight n) f h)
+blendSatKvb (some f) (some h) n = some (blended (blendWeight n) f h)
 blendSatKvb (some f) none n = some f
 blendSatKvb none h n = h
 
@@ -61,7 +61,7 @@ clampedShare alpha = cond (isFinite alpha) (clampOf alpha zero64 one64) zero64
 
 -- `warmup_blend` of a clamped share: '(1-α)·cold + α·warm'; warm alone answers at 1 only
 unfoldable pub blendBy : Float → Option ℕ → Option ℕ → Option ℕ
-blendBy a (some c) (some w) = some (mixed a c w)
+blendBy a (some c) (some w) = some (warmed a c w)
 blendBy a none (some w) = cond (le one64 a) (some w) none
 blendBy a c none = c
 

@@ -17,18 +17,18 @@ pub record Frac : Type 0 where
   pub num : ℕ
   pub den : ℕ
 
-abbrev pub whole : ℕ → Frac
-whole n = record { num = n; den = 1 }
+abbrev pub asFrac : ℕ → Frac
+asFrac n = record { num = n; den = 1 }
 
-abbrev pub wholes : Option ℕ → Option Frac
-wholes (some n) = some (whole n)
-wholes none = none
+abbrev pub asFracs : Option ℕ → Option Frac
+asFracs (some n) = some (asFrac n)
+asFracs none = none
 
 -- a weight "is the f64 that the Rust's operations under the stand-ins give .., read as a fraction"; -0, and what is no number from 0 up, weighs 0
 abbrev pub weight : Float → Frac
-weight nan = whole 0
-weight (inf s) = whole 0
-weight (fin true m e) = whole 0
+weight nan = asFrac 0
+weight (inf s) = asFrac 0
+weight (fin true m e) = asFrac 0
 weight (fin false m e) = record { num = m * up e; den = down e }
 
 -- from 0 to 1, or a zero with its sign set: both weights are, by the contract of `blend_weight` and by `share-in` of the clamped share
@@ -70,22 +70,22 @@ BoundedRate (some r) = r ≤ 2 ^ 50
 
 -- ---- at one depth: `flow_for_depth`, then `published_depth_rate`
 unfoldable pub exactBlend : Option ℕ → Option ℕ → ℕ → Option Frac
-exactBlend (some f) (some h) n = some (blend (weight (blendWeight n)) (whole f) (whole h))
-exactBlend (some f) none n = some (whole f)
-exactBlend none h n = wholes h
+exactBlend (some f) (some h) n = some (blend (weight (blendWeight n)) (asFrac f) (asFrac h))
+exactBlend (some f) none n = some (asFrac f)
+exactBlend none h n = asFracs h
 
 unfoldable pub exactWarm : ℕ → Option ℕ → Option ℕ → Option Frac
-exactWarm n flow hist = cond (leb n 1) (wholes (or flow hist)) (exactBlend flow hist n)
+exactWarm n flow hist = cond (leb n 1) (asFracs (or flow hist)) (exactBlend flow hist n)
 
 unfoldable pub exactFloor : Option Frac → Option ℕ → Option Frac
-exactFloor (some a) (some c) = some (greaterFrac a (whole c))
+exactFloor (some a) (some c) = some (greaterFrac a (asFrac c))
 exactFloor (some a) none = some a
-exactFloor none c = wholes c
+exactFloor none c = asFracs c
 
 unfoldable pub exactBy : Float → Option ℕ → Option Frac → Option Frac
-exactBy a (some c) (some w) = some (blend (weight a) w (whole c))
+exactBy a (some c) (some w) = some (blend (weight a) w (asFrac c))
 exactBy a none (some w) = cond (le one64 a) (some w) none
-exactBy a c none = wholes c
+exactBy a c none = asFracs c
 
 unfoldable pub exactPublished : ℕ → Float → Option ℕ → Option ℕ → Option ℕ → Option ℕ → Option Frac
 exactPublished n alpha flow frontier hist confirm =

@@ -21,10 +21,10 @@ enforceMonotoneDesc [] = []
 enforceMonotoneDesc (x ∷ xs) = x ∷ noMore x xs
 
 -- `hold_defined_then_monotone`: a missing rate takes the last one that is there
-unfoldable pub held : Option ℕ → List (Option ℕ) → List (Option ℕ)
-held last [] = []
-held last (some v ∷ os) = some v ∷ held (some v) os
-held last (none ∷ os) = last ∷ held last os
+unfoldable pub fillHoles : Option ℕ → List (Option ℕ) → List (Option ℕ)
+fillHoles last [] = []
+fillHoles last (some v ∷ os) = some v ∷ fillHoles (some v) os
+fillHoles last (none ∷ os) = last ∷ fillHoles last os
 
 -- the rates that are there, and such a list put back in their places
 unfoldable pub defined : List (Option ℕ) → List ℕ
@@ -39,7 +39,7 @@ putBack (some v ∷ os) [] = some v ∷ putBack os []
 putBack (some v ∷ os) (w ∷ vs) = some w ∷ putBack os vs
 
 unfoldable pub holdDefinedThenMonotone : List (Option ℕ) → List (Option ℕ)
-holdDefinedThenMonotone os = let filled = held none os in putBack filled (enforceMonotoneDesc (defined filled))
+holdDefinedThenMonotone os = let filled = fillHoles none os in putBack filled (enforceMonotoneDesc (defined filled))
 
 -- refusals 1 and 8 of the hold pass
 unfoldable pub holdRefusal : List ℕ → List ℕ → Option ℕ

@@ -26,8 +26,8 @@ unfoldable pub gap : ℕ → ℕ → Float
 gap from to = let ns = to - from in add binary64 (ofU64 (ns / 1000000000)) (div binary64 (ofU64 (ns % 1000000000)) (ofU64 1000000000))
 
 -- `(-LN_2 * dt / ADMIT_HALF_LIFE_SECS).exp()`, by the stand-in
-unfoldable pub kept : Float → Float
-kept dt = expOf (div binary64 (mul binary64 (neg ln2) dt) halfLifeSecs)
+unfoldable pub shareLeft : Float → Float
+shareLeft dt = expOf (div binary64 (mul binary64 (neg ln2) dt) halfLifeSecs)
 
 -- `1e-3`, the least time that a sample is taken over
 abbrev pub leastSecs : Float
@@ -35,11 +35,11 @@ leastSecs = round binary64 false 1 1000
 
 -- a rate or a total after a time: as it was unless the time is above 0
 unfoldable pub decayed : Float → Float → Float
-decayed dt x = cond (le dt (ofU64 0)) x (mul binary64 x (kept dt))
+decayed dt x = cond (le dt (ofU64 0)) x (mul binary64 x (shareLeft dt))
 
 -- `new`
-abbrev pub opened : ℕ → FeeFlowMeter
-opened now = record { «admit_wu_s» = replicate 402 (ofU64 0); «admitted_wu» = ofU64 0; last = now; «last_admit» = now }
+abbrev pub newMeter : ℕ → FeeFlowMeter
+newMeter now = record { «admit_wu_s» = replicate 402 (ofU64 0); «admitted_wu» = ofU64 0; last = now; «last_admit» = now }
 
 -- `decay_to`: 'A read decays the meter in place and moves its decay clock'; nothing changes unless the time is above 0
 unfoldable pub decayTo : FeeFlowMeter → ℕ → FeeFlowMeter
@@ -73,7 +73,7 @@ admitRatesWuS m now = rates (decayTo m now)
 
 -- what an admission of a weight adds to the rate of its bucket, a time after the one before: `sample * alpha`
 unfoldable pub admitted : ℕ → Float → Float
-admitted weight dt = mul binary64 (div binary64 (ofU64 weight) dt) (sub binary64 (ofU64 1) (kept dt))
+admitted weight dt = mul binary64 (div binary64 (ofU64 weight) dt) (sub binary64 (ofU64 1) (shareLeft dt))
 
 -- `note_admit`: the time is that since the last admission, at least 1e-3
 unfoldable pub noteAdmit : FeeFlowMeter → ℕ → ℕ → ℕ → FeeFlowMeter

@@ -34,12 +34,12 @@ blendOf a b frac =
     roundToU64 (expOf (add binary64 (mul binary64 (sub binary64 one frac) (lnOf (ofU64 a))) (mul binary64 frac (lnOf (ofU64 b)))))
 
 -- between the two neighbours of a rank, with `frac = rank - rank.floor()`; neighbours that are equal, one place too, stay
-unfoldable pub between : ℕ → ℕ → Float → ℕ
-between a b r = cond (eqb a b) a (blendOf a b (sub binary64 r (floorOf r)))
+unfoldable pub betweenNeighbors : ℕ → ℕ → Float → ℕ
+betweenNeighbors a b r = cond (eqb a b) a (blendOf a b (sub binary64 r (floorOf r)))
 
 -- the quantile of an ascending list at a rank
 unfoldable pub atRank : List ℕ → Float → ℕ
-atRank s r = between (getD s (lowerPlace r) 0) (getD s (upperPlace r) 0) r
+atRank s r = betweenNeighbors (getD s (lowerPlace r) 0) (getD s (upperPlace r) 0) r
 
 unfoldable pub quantileOf : List ℕ → Float → ℕ
 quantileOf xs confidence = atRank (sorted xs) (rankOf confidence (length xs))

@@ -7,7 +7,7 @@ ghost use mathlib.Core.List.{map};
 ghost use lib.ListN.{length};
 ghost use lib.Ieee.{le};
 ghost use Rattle.num.specs.Float.{ofU64, maxOf};
-ghost use Rattle.rbitcoin_mempool.specs.Meter.{halfLifeSecs, flowFullWu, leastSecs, gap, kept, decayed, opened, decayTo, full, fullness, rates, admitRatesWuS, noteAdmit};
+ghost use Rattle.rbitcoin_mempool.specs.Meter.{halfLifeSecs, flowFullWu, leastSecs, gap, shareLeft, decayed, newMeter, decayTo, full, fullness, rates, admitRatesWuS, noteAdmit};
 use crate::fee_est::BLOCK_WEIGHT_WU;
 use crate::fee_est::SECONDS_PER_BLOCK;
 use crate::fee_est::bucket_index;
@@ -54,14 +54,14 @@ fn secs_between(from: u64, to: u64) -> f64
 
 // The share of a rate that is left after a time.
 fn kept_after(dt: f64) -> f64
-    ensures { λ r. ⌜ r ≡ kept dt ⌝ }
+    ensures { λ r. ⌜ r ≡ shareLeft dt ⌝ }
 {
     num::exp::exp(-LN_2 * dt / FeeFlowMeter::ADMIT_HALF_LIFE_SECS)
 }
 
 // The same, worked out only for a time above 0.
 fn share_after(dt: f64) -> f64
-    ensures { λ r. ⌜ (le dt (ofU64 0) ≡ false → r ≡ kept dt) ⌝ }
+    ensures { λ r. ⌜ (le dt (ofU64 0) ≡ false → r ≡ shareLeft dt) ⌝ }
 {
     if dt <= 0.0 {
         return 1.0;
@@ -72,8 +72,8 @@ fn share_after(dt: f64) -> f64
 // The share that is left since the clock `last`. The one since the last admission, which is at
 // hand, is taken where the clocks and so the times are the same.
 fn share_since(last: u64, last_admit: u64, now: u64, dt: f64, share: f64) -> f64
-    requires { ⌜ (dt ≡ maxOf (gap «last_admit» now) leastSecs) × (share ≡ kept dt) ⌝ }
-    ensures { λ r. ⌜ (le (gap last now) (ofU64 0) ≡ false → r ≡ kept (gap last now)) ⌝ }
+    requires { ⌜ (dt ≡ maxOf (gap «last_admit» now) leastSecs) × (share ≡ shareLeft dt) ⌝ }
+    ensures { λ r. ⌜ (le (gap last now) (ofU64 0) ≡ false → r ≡ shareLeft (gap last now)) ⌝ }
 {
     let since = secs_between(last, now);
     if last == last_admit {
@@ -86,7 +86,7 @@ fn share_since(last: u64, last_admit: u64, now: u64, dt: f64, share: f64) -> f64
 
 // A total after a time that leaves a share of it.
 fn decay_total(total: f64, dt: f64, share: f64) -> f64
-    requires { ⌜ (le dt (ofU64 0) ≡ false → share ≡ kept dt) ⌝ }
+    requires { ⌜ (le dt (ofU64 0) ≡ false → share ≡ shareLeft dt) ⌝ }
     ensures { λ r. ⌜ r ≡ decayed dt total ⌝ }
 {
     if dt <= 0.0 {
@@ -98,7 +98,7 @@ fn decay_total(total: f64, dt: f64, share: f64) -> f64
 // Each rate after such a time, in place.
 fn decay_rates(rates: &mut [f64; 402], dt: f64, share: f64)
     requires { ⌜ length (now rates) ≡ 402 ⌝ }
-    requires { ⌜ (le dt (ofU64 0) ≡ false → share ≡ kept dt) ⌝ }
+    requires { ⌜ (le dt (ofU64 0) ≡ false → share ≡ shareLeft dt) ⌝ }
     ensures { λ _. ⌜ now (rates .exit) ≡ map (decayed dt) (now (rates .entry)) ⌝ }
 {
     if dt <= 0.0 {
@@ -130,7 +130,7 @@ impl FeeFlowMeter {
         * (FeeFlowMeter::ADMIT_HALF_LIFE_SECS / LN_2);
 
     pub fn new(now: u64) -> Self
-        ensures { λ r. ⌜ r ≡ opened now ⌝ }
+        ensures { λ r. ⌜ r ≡ newMeter now ⌝ }
     {
         Self {
             admit_wu_s: [0.0; 402],

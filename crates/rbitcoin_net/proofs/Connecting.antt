@@ -17,7 +17,7 @@ use Rattle.rbitcoin_net.specs.declared.fee_history.FeeHistory.{FeeHistor
 use Rattle.rbitcoin_net.specs.History.{hurdleOf}
 use Rattle.rbitcoin_net.specs.Lent.{Rows, rows, Hashes, hashes, Lent, lent, windowsOf, lentRefusal}
 use Rattle.rbitcoin_net.specs.Search.{bisect, placeOf}
-use Rattle.rbitcoin_net.specs.Hashes.{kept, Room, hashPlace}
+use Rattle.rbitcoin_net.specs.Hashes.{hashList, Room, hashPlace}
 use Rattle.rbitcoin_net.specs.Cuts.{withHashes, unkept, cutAt, dropFrom}
 use Rattle.rbitcoin_net.specs.Rooms.{Roomy}
 use Rattle.rbitcoin_net.specs.Inserts.{sizesRefusal, insertRefusal, Placed, Whole, whole, Filed, filed, withWindows, pushRate, storeIn, insertIn}
@@ -99,7 +99,7 @@ module _ (h p : ℕ) (s : FeeHistory) (m : Lent) (x : Placed s m h p) where
   pub left-is : (q : ℕ) (c : FeeHistory) → q ≡ bisect (s .hashes - 0) (m .hashes .heights) h 0 (s .hashes) → c ≡ cutAt (rows [] (m .rows .marks) [] (m .rows .sizes)) p s → withHashes q (unkept c) ≡ left
   unfolding dropFrom
   left-is q c d f =
-      let b : q ≡ hashPlace h (kept (s .hashes) (m .hashes)) = hash-place-is h (kept (s .hashes) (m .hashes)) q d in
+      let b : q ≡ hashPlace h (hashList (s .hashes) (m .hashes)) = hash-place-is h (hashList (s .hashes) (m .hashes)) q d in
       let g = f ∙ cut-alike [] (m .rows .heights) (m .rows .marks) [] (m .rows .rates) (m .rows .sizes) p s ∙ ap (λ j. cutAt (m .rows) j s) (x .place) in
       λ i. withHashes (b i) (unkept (g i))
 
@@ -120,7 +120,7 @@ module _ (h p : ℕ) (s : FeeHistory) (m : Lent) (x : Placed s m h p) where
   left-hashes = bisect-within (m .hashes .heights) h (s .hashes) 0 (s .hashes) (omega arith)
 
   abbrev Ready : AnalogHistory → FeeHistory → Type 0
-  Ready a t = Roomy (t .count) (withWindows a (t .«analog_stale») t) (length (m .rows .heights)) (length (m .rows .marks)) (length (m .rows .rates)) (length (m .rows .sizes)) × Room (kept (t .hashes) (m .hashes))
+  Ready a t = Roomy (t .count) (withWindows a (t .«analog_stale») t) (length (m .rows .heights)) (length (m .rows .marks)) (length (m .rows .rates)) (length (m .rows .sizes)) × Room (hashList (t .hashes) (m .hashes))
 
   left-ready : (a : AnalogHistory) → a .capacity ≡ s .analog .capacity → p < s .start + s .analog .capacity → Ready a left
   left-ready a c l =

@@ -23,7 +23,7 @@ use Rattle.rbitcoin_net.specs.Map.{Entry, isSome}
 use Rattle.rbitcoin_net.specs.History.{History, truncateAbove, hurdleOf, forget, forgetAll, next, consMaybe, hurdlesOf}
 use Rattle.rbitcoin_net.specs.Lent.{Rows, rows, Hashes, hashes, Lent, lent, rowAt, heldRows, hashAt, hashesIn, windowsOf, view, stateRefusal, rowsRefusal, Sound}
 use Rattle.rbitcoin_net.specs.Search.{bisect, placeOf}
-use Rattle.rbitcoin_net.specs.Hashes.{kept, hashPlace}
+use Rattle.rbitcoin_net.specs.Hashes.{hashList, hashPlace}
 use Rattle.rbitcoin_net.specs.Cuts.{withRows, withHashes, unkept, forgetRow, forgetRows, cutAt, dropFrom, truncateIn, truncateRefusal, truncateRefusalOf, Truncates}
 use Rattle.rbitcoin_net.proofs.Tables.{Parts, table-split, ascends-at, ascends-of}
 use Rattle.rbitcoin_net.proofs.Search.{place-parts, place-is}
@@ -123,7 +123,7 @@ module _ (m : Rows) (z : Hashes) (us : List ℕ) (bs : List Float) (ds : List �
   parts : Parts (λ i. rowAt m i .key) k (s .start) (s .start + s .count) place
   parts = place-parts m s k (x .ascends)
 
-  hash-place : Parts (λ i. hashAt z i .key) k 0 (s .hashes) (hashPlace k (kept (s .hashes) z))
+  hash-place : Parts (λ i. hashAt z i .key) k 0 (s .hashes) (hashPlace k (hashList (s .hashes) z))
   hash-place = hash-parts m z us bs ds k (s .hashes) (x .hashes-ascend)
 
   state-is : stateRefusal (dropFrom k m z s) ≡ 0
@@ -155,7 +155,7 @@ module _ (m : Rows) (z : Hashes) (us : List ℕ) (bs : List Float) (ds : List �
       record {
         lent = lent-again s (dropFrom k m z s) memory (capacity-stays m dropped place s) (tracked-stays m dropped place s) state-is (x .lent);
         ascends = ascends-of (rowAt m) (place - s .start) (s .start) (λ i j l o r. ascends-at (rowAt m) (s .count) (s .start) (x .ascends) i j l o (omega (arith, p .low, p .high)));
-        hashes-ascend = ascends-of (hashAt z) (hashPlace k (kept (s .hashes) z)) 0 (λ i j l o r. ascends-at (hashAt z) (s .hashes) 0 (x .hashes-ascend) i j l o (omega (arith, q .high)));
+        hashes-ascend = ascends-of (hashAt z) (hashPlace k (hashList (s .hashes) z)) 0 (λ i j l o r. ascends-at (hashAt z) (s .hashes) 0 (x .hashes-ascend) i j l o (omega (arith, q .high)));
         stored = good-stored (windowsOf left memory) left-good;
         hurdles = λ st. hurdles-left (sym (stale-stays m dropped place s) ∙ st);
       }
@@ -186,10 +186,10 @@ pub truncated : (h k : ℕ) (hs ms zs ks : List ℕ) (s c t : FeeHistory) (p q :
 unfolding dropFrom
 truncated h k hs ms zs ks s c t p q n e d f g =
     let a : p ≡ placeOf hs s (next h) = place-is hs s k p e ∙ ap (placeOf hs s) n in
-    let b : q ≡ hashPlace (next h) (kept (s .hashes) (hashes ks [])) = hash-place-is k (kept (s .hashes) (hashes ks [])) q d ∙ ap (λ j. hashPlace j (kept (s .hashes) (hashes ks []))) n in
+    let b : q ≡ hashPlace (next h) (hashList (s .hashes) (hashes ks [])) = hash-place-is k (hashList (s .hashes) (hashes ks [])) q d ∙ ap (λ j. hashPlace j (hashList (s .hashes) (hashes ks []))) n in
     g
     ∙ (λ i. withHashes (b i) (unkept (f i)))
-    ∙ ap (λ (x : FeeHistory). withHashes (hashPlace (next h) (kept (s .hashes) (hashes ks []))) (unkept x)) (cut-alike [] hs ms [] [] zs p s ∙ ap (λ j. cutAt (rows hs ms [] zs) j s) a)
+    ∙ ap (λ (x : FeeHistory). withHashes (hashPlace (next h) (hashList (s .hashes) (hashes ks []))) (unkept x)) (cut-alike [] hs ms [] [] zs p s ∙ ap (λ j. cutAt (rows hs ms [] zs) j s) a)
 
 module _ (h : ℕ) (m : Rows) (z : Hashes) (s : FeeHistory) (v : Verdict) (t : FeeHistory) (o : v ≡ verdictOf (truncateRefusalOf s m z)) (e : t ≡ cond (eqb (truncateRefusalOf s m z) 0) (truncateIn h m z s) s) where
   -- memory that serves a sound state is not refused

@@ -24,7 +24,7 @@ use Rattle.rbitcoin_net.specs.Map.{Entry, Ascends, below, onward, isSome
 use Rattle.rbitcoin_net.specs.History.{History, setBlocks, setTotal, setHashes, setHurdles, setRates, forget, forgetAll, next, truncateAbove}
 use Rattle.rbitcoin_net.specs.Lent.{Rows, Hashes, Lent, lent, blockAt, rowAt, heldRows, hashAt, hashesIn, keptRates, windowsOf, view}
 use Rattle.rbitcoin_net.specs.Search.{placeOf}
-use Rattle.rbitcoin_net.specs.Hashes.{kept, hashPlace}
+use Rattle.rbitcoin_net.specs.Hashes.{hashList, hashPlace}
 use Rattle.rbitcoin_net.specs.Cuts.{withSums, forgetRow, forgetRows, cutAt, dropFrom}
 use Rattle.rbitcoin_net.proofs.Tables.{Parts, ascends-rising, below-table, onward-table}
 use Rattle.rbitcoin_net.proofs.Search.{place-parts, bisect-parts}
@@ -140,15 +140,15 @@ module _ (m : Rows) (z : Hashes) (us : List ℕ) (bs : List Float) (ds : List �
       ∙ ap (forgetAll popBack (tabulate (rowAt m) (suc i) n)) (forget-view i s g)
 
   -- the kept hashes below a height
-  pub hash-parts : (h n : ℕ) → Ascends (hashesIn n z) → Parts (element (z .heights)) h 0 n (hashPlace h (kept n z))
+  pub hash-parts : (h n : ℕ) → Ascends (hashesIn n z) → Parts (element (z .heights)) h 0 n (hashPlace h (hashList n z))
   unfolding hashPlace hashesIn
   hash-parts h n asc = bisect-parts (z .heights) h n 0 n (λ i j a b c. ascends-rising (hashAt z) n 0 asc i j a b (omega arith)) (omega arith) (omega arith)
 
-  pub hashes-below : (h n : ℕ) → Ascends (hashesIn n z) → hashesIn (hashPlace h (kept n z)) z ≡ below h (hashesIn n z)
+  pub hashes-below : (h n : ℕ) → Ascends (hashesIn n z) → hashesIn (hashPlace h (hashList n z)) z ≡ below h (hashesIn n z)
   unfolding hashesIn
   hashes-below h n asc =
       let p = hash-parts h n asc in
-      let q = hashPlace h (kept n z) in
+      let q = hashPlace h (hashList n z) in
       let e : q - 0 ≡ q = omega arith in
       let r : Parts (λ i. hashAt z i .key) h 0 (0 + n) q = record { low = p .low; high = omega (arith, p .high); before = p .before; behind = λ i l o. p .behind i l (omega arith) } in
       sym (below-table (hashAt z) h 0 n q r ∙ ap (tabulate (hashAt z) 0) e)
@@ -163,7 +163,7 @@ module _ (m : Rows) (z : Hashes) (us : List ℕ) (bs : List Float) (ds : List �
     abbrev dropped : ℕ
     dropped = s .start + s .count - place
 
-    fields : view (dropFrom k m z s) memory ≡ setHashes (hashesIn (hashPlace k (kept (s .hashes) z)) z) (setBlocks (tabulate (rowAt m) (s .start) (place - s .start)) (setRates none (view (forgetRows popBackOf m place dropped s) memory)))
+    fields : view (dropFrom k m z s) memory ≡ setHashes (hashesIn (hashPlace k (hashList (s .hashes) z)) z) (setBlocks (tabulate (rowAt m) (s .start) (place - s .start)) (setRates none (view (forgetRows popBackOf m place dropped s) memory)))
     unfolding view dropFrom cutAt heldRows keptRates
     fields = refl
 
@@ -179,5 +179,5 @@ module _ (m : Rows) (z : Hashes) (us : List ℕ) (bs : List Float) (ds : List �
     unfolding view
     cut-view =
         fields
-        ∙ ap (λ (x : History). setHashes (hashesIn (hashPlace k (kept (s .hashes) z)) z) (setBlocks (tabulate (rowAt m) (s .start) (place - s .start)) (setRates none x))) (forgets-view dropped place s good)
+        ∙ ap (λ (x : History). setHashes (hashesIn (hashPlace k (hashList (s .hashes) z)) z) (setBlocks (tabulate (rowAt m) (s .start) (place - s .start)) (setRates none x))) (forgets-view dropped place s good)
         ∙ (λ i. setHashes (hashes-below k (s .hashes) hasc i) (setBlocks (blocks-below i) (setRates none (forgetAll popBack (blocks-onward i) (view s memory)))))

@@ -17,7 +17,7 @@ use Rattle.rbitcoin_net.specs.Map.{Ascends, isSome}
 use Rattle.rbitcoin_net.specs.History.{History, hurdleOf, forget, evictOne, consMaybe, hurdlesOf}
 use Rattle.rbitcoin_net.specs.Lent.{Rows, Hashes, Lent, lent, rowAt, heldRows, windowsOf, view, stateRefusal, lentRefusal, Sound}
 use Rattle.rbitcoin_net.specs.Cuts.{withSums, unkept, forgetRow}
-use Rattle.rbitcoin_net.specs.Evictions.{Held, held, evictRow, evictOldest, evictRows, evictIn}
+use Rattle.rbitcoin_net.specs.Evictions.{Hashed, hashed, evictRow, evictOldest, evictRows, evictIn}
 use Rattle.rbitcoin_net.proofs.Refusals.{Serves, serves, serves-lent}
 use Rattle.rbitcoin_net.proofs.CutViews.{pop-capacity}
 use Rattle.rbitcoin_net.proofs.EvictViews.{Fit, one-view, one-fit, next-start, next-count}
@@ -51,8 +51,8 @@ module _ (m : Rows) (us : List ℕ) (bs : List Float) (ds : List ℕ) where
       }
 
   module _ (s : FeeHistory) (z : Hashes) (n : ℕ) (c : s .count ≡ suc n) (x : Sound s (with z)) where
-    abbrev next : Held
-    next = evictOldest m (held s z)
+    abbrev next : Hashed
+    next = evictOldest m (hashed s z)
 
     fit : Fit m us bs ds s z
     fit = sound-fit s z x
@@ -113,22 +113,22 @@ module _ (m : Rows) (us : List ℕ) (bs : List Float) (ds : List ℕ) where
           hurdles = λ st. hurdles-are st ∙ ap hurdlesOf (sym rows-are);
         }
 
-  rows-sound : (n : ℕ) (s : FeeHistory) (z : Hashes) → s .count ≡ n → Sound s (with z) → Sound (evictRows m n (held s z) .state) (with (evictRows m n (held s z) .hashes))
+  rows-sound : (n : ℕ) (s : FeeHistory) (z : Hashes) → s .count ≡ n → Sound s (with z) → Sound (evictRows m n (hashed s z) .state) (with (evictRows m n (hashed s z) .hashes))
   unfolding evictRows
   rows-sound zero s z c x = go (ltb (s .budget) (s .«txstat_bytes»))
     where
-      go : (b : Bool) → Sound (cond b (held (withSums (s .analog) 0 s) z) (held s z) .state) (with (cond b (held (withSums (s .analog) 0 s) z) (held s z) .hashes))
+      go : (b : Bool) → Sound (cond b (hashed (withSums (s .analog) 0 s) z) (hashed s z) .state) (with (cond b (hashed (withSums (s .analog) 0 s) z) (hashed s z) .hashes))
       go true = total-sound s (with z) x 0
       go false = x
   rows-sound (suc n) s z c x =
       go (ltb (s .budget) (s .«txstat_bytes»))
-      (rows-sound n (evictOldest m (held s z) .state) (evictOldest m (held s z) .hashes) (next-count m us bs ds s z (sound-fit s z x) n c) (one-sound s z n c x))
+      (rows-sound n (evictOldest m (hashed s z) .state) (evictOldest m (hashed s z) .hashes) (next-count m us bs ds s z (sound-fit s z x) n c) (one-sound s z n c x))
     where
-      go : (b : Bool) → Sound (evictRows m n (evictOldest m (held s z)) .state) (with (evictRows m n (evictOldest m (held s z)) .hashes))
-          → Sound (cond b (evictRows m n (evictOldest m (held s z))) (held s z) .state) (with (cond b (evictRows m n (evictOldest m (held s z))) (held s z) .hashes))
+      go : (b : Bool) → Sound (evictRows m n (evictOldest m (hashed s z)) .state) (with (evictRows m n (evictOldest m (hashed s z)) .hashes))
+          → Sound (cond b (evictRows m n (evictOldest m (hashed s z))) (hashed s z) .state) (with (cond b (evictRows m n (evictOldest m (hashed s z))) (hashed s z) .hashes))
       go true y = y
       go false y = x
 
-  pub evict-sound : (s : FeeHistory) (z : Hashes) → Sound s (with z) → Sound (evictIn m (held s z) .state) (with (evictIn m (held s z) .hashes))
+  pub evict-sound : (s : FeeHistory) (z : Hashes) → Sound s (with z) → Sound (evictIn m (hashed s z) .state) (with (evictIn m (hashed s z) .hashes))
   unfolding evictIn
   evict-sound s z x = rows-sound (s .count) (unkept s) z refl (unkept-sound s (with z) x)

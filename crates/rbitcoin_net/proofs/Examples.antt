@@ -79,20 +79,20 @@ unfolding retain below onward forgetAll next truncateAbove
 cut-clears = refl
 
 -- 144 hashes from height 100 on
-abbrev hashed : ℕ → Entry (List ℕ)
-hashed i = entry (i + 100) (i ∷ [])
+abbrev hashEntry : ℕ → Entry (List ℕ)
+hashEntry i = entry (i + 100) (i ∷ [])
 
 abbrev full : History
-full = record { blocks = []; total = 0; budget = 1000; targets = []; hashes = tabulate hashed 0 144; hurdles = []; stale = false; rates = none }
+full = record { blocks = []; total = 0; budget = 1000; targets = []; hashes = tabulate hashEntry 0 144; hurdles = []; stale = false; rates = none }
 
 -- of a lower height the block is kept and the hash is not
 pub low-hash : insertIfAbsentOf 50 (blank 10) (some (7 ∷ [])) full
-    ≡ record { blocks = entry 50 (blank 10) ∷ []; total = 10; budget = 1000; targets = []; hashes = tabulate hashed 0 144; hurdles = []; stale = false; rates = none }
+    ≡ record { blocks = entry 50 (blank 10) ∷ []; total = 10; budget = 1000; targets = []; hashes = tabulate hashEntry 0 144; hurdles = []; stale = false; rates = none }
 unfolding tabulate retain below above get insert lastKey newest evictBlocks evict hold insertIfAbsentOf
 low-hash = refl
 
 -- of a higher one the oldest goes
-pub high-hash : insertIfAbsentOf 244 (blank 10) (some (144 ∷ [])) full .hashes ≡ tabulate hashed 1 144
+pub high-hash : insertIfAbsentOf 244 (blank 10) (some (144 ∷ [])) full .hashes ≡ tabulate hashEntry 1 144
 unfolding tabulate retain below above get insert lastKey newest evictBlocks evict hold insertIfAbsentOf
 high-hash = refl
 

@@ -15,7 +15,7 @@ use Rattle.rbitcoin_net.specs.Map.{Entry, entry, Ascends, remove, insert
 use Rattle.rbitcoin_net.specs.History.{newest}
 use Rattle.rbitcoin_net.specs.Lent.{Hashes, hashAt, hashesIn}
 use Rattle.rbitcoin_net.specs.Search.{isAt}
-use Rattle.rbitcoin_net.specs.Hashes.{Kept, kept, Room, movedHashes, putHash, hashPlace, removeAt, removeHash, noteAt}
+use Rattle.rbitcoin_net.specs.Hashes.{HashList, hashList, Room, movedHashes, putHash, hashPlace, removeAt, removeHash, noteAt}
 use Rattle.rbitcoin_net.proofs.Tables.{either, Parts, table-add, table-ext, table-split, ascends-rising, ascends-at, ascends-of, remove-found, remove-absent, insert-found, insert-absent}
 use Rattle.rbitcoin_net.proofs.Search.{bisect-parts, is-at-true, is-at-false}
 
@@ -43,7 +43,7 @@ module _ (z : Hashes) (to from n : ℕ) (hl : 144 ≤ length (z .heights)) (bl :
       hash-ext (movedHashes to from n z) z i i (moved-above (z .heights) to from n 0 (omega arith) (omega arith) i l)
       (λ k m. moved-above (z .bytes) (32 * to) (32 * from) (32 * n) 0 (omega arith) (omega arith) (32 * i + k) (omega arith))
 
-module _ (h : ℕ) (k : Kept) (room : Room k) (asc : Ascends (hashesIn (k .count) (k .lists))) where
+module _ (h : ℕ) (k : HashList) (room : Room k) (asc : Ascends (hashesIn (k .count) (k .lists))) where
   abbrev f : ℕ → Entry (List ℕ)
   f = hashAt (k .lists)
 
@@ -216,7 +216,7 @@ moved-reach z to from n hl bl a b =
 -- ---- `note_hash`
 
 -- a hash put in leaves room
-put-room : (z : Hashes) (c q h : ℕ) (bytes : List ℕ) → length bytes ≡ 32 → q < 144 → c ≤ 144 → 144 ≤ length (z .heights) → 4608 ≤ length (z .bytes) → Room (kept c (putHash q h bytes z))
+put-room : (z : Hashes) (c q h : ℕ) (bytes : List ℕ) → length bytes ≡ 32 → q < 144 → c ≤ 144 → 144 ≤ length (z .heights) → 4608 ≤ length (z .bytes) → Room (hashList c (putHash q h bytes z))
 put-room z c q h bytes len l few hl bl =
     let e = length-set (z .heights) q h in
     let f = length-append (take (32 * q) (z .bytes)) bytes in
@@ -225,7 +225,7 @@ put-room z c q h bytes len l few hl bl =
     let d = length-drop (32 * q + 32) (z .bytes) in
     record { few = few; heights = omega arith; bytes = omega arith }
 
-pub note-room : (q h : ℕ) (bytes : List ℕ) → length bytes ≡ 32 → (k : Kept) → Room k → q ≤ k .count → Room (noteAt q h bytes k)
+pub note-room : (q h : ℕ) (bytes : List ℕ) → length bytes ≡ 32 → (k : HashList) → Room k → q ≤ k .count → Room (noteAt q h bytes k)
 unfolding noteAt
 note-room q h bytes len k r l = go (isAt (k .lists .heights) (k .count) h q) refl (ltb (k .count) 144) refl (eqb q 0) refl
   where
@@ -235,25 +235,25 @@ note-room q h bytes len k r l = go (isAt (k .lists .heights) (k .count) h q) ref
     n : ℕ
     n = k .count
 
-    between : n < 144 → Room (kept (n + 1) (putHash q h bytes (movedHashes (q + 1) q (n - q) z)))
+    between : n < 144 → Room (hashList (n + 1) (putHash q h bytes (movedHashes (q + 1) q (n - q) z)))
     between u =
         let m = moved-reach z (q + 1) q (n - q) (r .heights) (r .bytes) (omega arith) (omega arith) in
         put-room (movedHashes (q + 1) q (n - q) z) (n + 1) q h bytes len (omega arith) (omega arith) (m .0) (m .1)
 
-    over-oldest : (q ≡ 0 → ⊥) → Room (kept n (putHash (q - 1) h bytes (movedHashes 0 1 (q - 1) z)))
+    over-oldest : (q ≡ 0 → ⊥) → Room (hashList n (putHash (q - 1) h bytes (movedHashes 0 1 (q - 1) z)))
     over-oldest u =
         let f = r .few in
         let m = moved-reach z 0 1 (q - 1) (r .heights) (r .bytes) (omega arith) (omega arith) in
         put-room (movedHashes 0 1 (q - 1) z) n (q - 1) h bytes len (omega arith) f (m .0) (m .1)
 
     go : (a : Bool) → isAt (z .heights) n h q ≡ a → (b : Bool) → ltb n 144 ≡ b → (c : Bool) → eqb q 0 ≡ c
-        → Room (cond a (kept n (putHash q h bytes z)) (cond b (kept (n + 1) (putHash q h bytes (movedHashes (q + 1) q (n - q) z))) (cond c k (kept n (putHash (q - 1) h bytes (movedHashes 0 1 (q - 1) z))))))
+        → Room (cond a (hashList n (putHash q h bytes z)) (cond b (hashList (n + 1) (putHash q h bytes (movedHashes (q + 1) q (n - q) z))) (cond c k (hashList n (putHash (q - 1) h bytes (movedHashes 0 1 (q - 1) z))))))
     go true t b u c v = let f = r .few in let p = is-at-true (z .heights) n h q t .0 in put-room z n q h bytes len (omega arith) f (r .heights) (r .bytes)
     go false t true u c v = between (ltb-true _ _ u)
     go false t false u true v = r
     go false t false u false v = over-oldest (eqb-false _ _ v)
 
-module _ (h : ℕ) (bytes : List ℕ) (len : length bytes ≡ 32) (k : Kept) (room : Room k) (asc : Ascends (hashesIn (k .count) (k .lists))) where
+module _ (h : ℕ) (bytes : List ℕ) (len : length bytes ≡ 32) (k : HashList) (room : Room k) (asc : Ascends (hashesIn (k .count) (k .lists))) where
   abbrev z : Hashes
   z = k .lists
 
@@ -362,7 +362,7 @@ module _ (h : ℕ) (bytes : List ℕ) (len : length bytes ≡ 32) (k : Kept) (ro
   note-view = go (isAt (z .heights) n h place) refl (ltb n 144) refl (eqb place 0) refl
     where
       go : (a : Bool) → isAt (z .heights) n h place ≡ a → (b : Bool) → ltb n 144 ≡ b → (c : Bool) → eqb place 0 ≡ c
-          → (let r = cond a (kept n (putHash place h bytes z)) (cond b (kept (n + 1) (putHash place h bytes (movedHashes (place + 1) place (n - place) z))) (cond c k (kept n (putHash (place - 1) h bytes (movedHashes 0 1 (place - 1) z))))) in tabulate (hashAt (r .lists)) 0 (r .count) ≡ newest (insert h bytes (tabulate (hashAt z) 0 n)))
+          → (let r = cond a (hashList n (putHash place h bytes z)) (cond b (hashList (n + 1) (putHash place h bytes (movedHashes (place + 1) place (n - place) z))) (cond c k (hashList n (putHash (place - 1) h bytes (movedHashes 0 1 (place - 1) z))))) in tabulate (hashAt (r .lists)) 0 (r .count) ≡ newest (insert h bytes (tabulate (hashAt z) 0 n)))
       go true t b u c v = note-found t
       go false t true u c v = note-between t (ltb-true _ _ u)
       go false t false u true v = note-lowest t (ltb-false _ _ u) (eqb-true _ _ v)

@@ -11,7 +11,7 @@ use mathlib.Core.Option.{none, some}
 use Rattle.slices.specs.Lists.{copyFront}
 use Rattle.rbitcoin_net.specs.Lent.{Hashes}
 use Rattle.rbitcoin_net.specs.Search.{bisect, isAt}
-use Rattle.rbitcoin_net.specs.Hashes.{Kept, kept, hashOf, movedHashes, putHash, hashPlace, removeAt, removeHash, noteAt, noteHashIn}
+use Rattle.rbitcoin_net.specs.Hashes.{HashList, hashList, hashOf, movedHashes, putHash, hashPlace, removeAt, removeHash, noteAt, noteHashIn}
 use Rattle.rbitcoin_net.specs.declared.fee_history.BlockHash.{BlockHash}
 
 -- a list copied over one of the same length
@@ -32,7 +32,7 @@ put-bytes xs hash a l h =
     ∙ ap (λ v. take a xs ++ (hash ++ v)) (drop-drop 32 a xs)
     ∙ sym (append-assoc (take a xs) hash (drop (a + 32) xs))
 
-module _ (h : ℕ) (k : Kept) where
+module _ (h : ℕ) (k : HashList) where
   pub hash-place-is : (q : ℕ) → q ≡ bisect (k .count - 0) (k .lists .heights) h 0 (k .count) → q ≡ hashPlace h k
   unfolding hashPlace
   hash-place-is q e = let d : k .count - 0 ≡ k .count = omega arith in e ∙ ap (λ n. bisect n (k .lists .heights) h 0 (k .count)) d
@@ -44,34 +44,34 @@ module _ (h : ℕ) (k : Kept) where
         let u : isAt (k .lists .heights) (k .count) h (hashPlace h k) ≡ false = ap (isAt (k .lists .heights) (k .count) h) (sym e) ∙ t in
         rw u
 
-    pub remove-some : (z : Hashes) → isAt (k .lists .heights) (k .count) h q ≡ true → z ≡ movedHashes q (q + 1) (k .count - q - 1) (k .lists) → kept (k .count - 1) z ≡ removeHash h k
+    pub remove-some : (z : Hashes) → isAt (k .lists .heights) (k .count) h q ≡ true → z ≡ movedHashes q (q + 1) (k .count - q - 1) (k .lists) → hashList (k .count - 1) z ≡ removeHash h k
     unfolding removeHash removeAt
     remove-some z t d =
         let u : isAt (k .lists .heights) (k .count) h (hashPlace h k) ≡ true = ap (isAt (k .lists .heights) (k .count) h) (sym e) ∙ t in
-        rw u (ap (kept (k .count - 1)) (d ∙ ap (λ p. movedHashes p (p + 1) (k .count - p - 1) (k .lists)) e))
+        rw u (ap (hashList (k .count - 1)) (d ∙ ap (λ p. movedHashes p (p + 1) (k .count - p - 1) (k .lists)) e))
 
 -- `note_hash` at a place, by the code's branches
-pub note-lowest : (q h : ℕ) (bytes : List ℕ) (k : Kept) → isAt (k .lists .heights) (k .count) h q ≡ false → 144 ≤ k .count → q ≡ 0 → k ≡ noteAt q h bytes k
+pub note-lowest : (q h : ℕ) (bytes : List ℕ) (k : HashList) → isAt (k .lists .heights) (k .count) h q ≡ false → 144 ≤ k .count → q ≡ 0 → k ≡ noteAt q h bytes k
 unfolding noteAt
 note-lowest q h bytes k t l e = rw (t, le-ltb _ _ l, eq-eqb q 0 e)
 
-module _ (q h : ℕ) (bytes : List ℕ) (k : Kept) (z : Hashes) where
-  pub note-over : isAt (k .lists .heights) (k .count) h q ≡ true → z ≡ putHash q h bytes (k .lists) → kept (k .count) z ≡ noteAt q h bytes k
+module _ (q h : ℕ) (bytes : List ℕ) (k : HashList) (z : Hashes) where
+  pub note-over : isAt (k .lists .heights) (k .count) h q ≡ true → z ≡ putHash q h bytes (k .lists) → hashList (k .count) z ≡ noteAt q h bytes k
   unfolding noteAt
-  note-over t e = rw t (ap (kept (k .count)) e)
+  note-over t e = rw t (ap (hashList (k .count)) e)
 
   module _ (t : isAt (k .lists .heights) (k .count) h q ≡ false) where
-    pub note-between : (y : Hashes) → k .count < 144 → y ≡ movedHashes (q + 1) q (k .count - q) (k .lists) → z ≡ putHash q h bytes y → kept (k .count + 1) z ≡ noteAt q h bytes k
+    pub note-between : (y : Hashes) → k .count < 144 → y ≡ movedHashes (q + 1) q (k .count - q) (k .lists) → z ≡ putHash q h bytes y → hashList (k .count + 1) z ≡ noteAt q h bytes k
     unfolding noteAt
-    note-between y l d e = rw (t, lt-ltb _ _ l) (ap (kept (k .count + 1)) (e ∙ ap (putHash q h bytes) d))
+    note-between y l d e = rw (t, lt-ltb _ _ l) (ap (hashList (k .count + 1)) (e ∙ ap (putHash q h bytes) d))
 
-    pub note-above : (y : Hashes) → 144 ≤ k .count → (q ≡ 0 → ⊥) → y ≡ movedHashes 0 1 (q - 1) (k .lists) → z ≡ putHash (q - 1) h bytes y → kept (k .count) z ≡ noteAt q h bytes k
+    pub note-above : (y : Hashes) → 144 ≤ k .count → (q ≡ 0 → ⊥) → y ≡ movedHashes 0 1 (q - 1) (k .lists) → z ≡ putHash (q - 1) h bytes y → hashList (k .count) z ≡ noteAt q h bytes k
     unfolding noteAt
-    note-above y l n d e = rw (t, le-ltb _ _ l, ne-eqb q 0 n) (ap (kept (k .count)) (e ∙ ap (putHash (q - 1) h bytes) d))
+    note-above y l n d e = rw (t, le-ltb _ _ l, ne-eqb q 0 n) (ap (hashList (k .count)) (e ∙ ap (putHash (q - 1) h bytes) d))
 
-module _ (h : ℕ) (b : BlockHash) (k : Kept) where
+module _ (h : ℕ) (b : BlockHash) (k : HashList) where
   pub note-nothing : b .there ≡ false → k ≡ noteHashIn h (hashOf b) k
   note-nothing e = rw e
 
-  pub note-given : (q : ℕ) (r : Kept) → b .there ≡ true → q ≡ hashPlace h k → r ≡ noteAt q h (b .bytes) k → r ≡ noteHashIn h (hashOf b) k
+  pub note-given : (q : ℕ) (r : HashList) → b .there ≡ true → q ≡ hashPlace h k → r ≡ noteAt q h (b .bytes) k → r ≡ noteHashIn h (hashOf b) k
   note-given q r e d f = f ∙ ap (λ p. noteAt p h (b .bytes) k) d ∙ sym (ap (λ (t : Bool). noteHashIn h (cond t (some (b .bytes)) none) k) e)

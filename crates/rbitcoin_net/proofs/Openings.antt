@@ -18,12 +18,12 @@ use Rattle.rbitcoin_mempool.proofs.Refusals.{refusing, first-stands, then-secon
 use Rattle.rbitcoin_mempool.proofs.Refusals.{lent as windows-lent}
 use Rattle.rbitcoin_net.specs.History.{new, hurdlesOf}
 use Rattle.rbitcoin_net.specs.Lent.{Lent, view, heldRows, hashesIn, keptRates, windowsOf, stateRefusal, Sound}
-use Rattle.rbitcoin_net.specs.Openings.{freshOf, refusalIn, memoryRefusal, openRefusal, Opens}
+use Rattle.rbitcoin_net.specs.Openings.{freshOf, verdictNumber, memoryRefusal, openRefusal, Opens}
 use Rattle.rbitcoin_net.specs.declared.fee_history.FeeHistory.{FeeHistory}
 use Rattle.rbitcoin_net.proofs.Refusals.{both-zero, parts-lent, state-taken}
 
 -- the windows' refusal, from their answer
-pub refusal-is : (k : ℕ) → refusalIn (verdictOf k) ≡ k
+pub refusal-is : (k : ℕ) → verdictNumber (verdictOf k) ≡ k
 unfolding verdictOf
 refusal-is zero = refl
 refusal-is (suc k) = refl
@@ -96,9 +96,9 @@ module _ (budget : ℕ) (targets : List ℕ) (c : ℕ) (m : Lent) (t : FeeHistor
   }
 
 -- by the code's branches: w is the windows' refusal, a the windows that they left
-module _ (budget : ℕ) (targets : List ℕ) (c : ℕ) (m : Lent) (w : ℕ) (v : Verdict) (a : AnalogHistory) (t : FeeHistory) (answered : w ≡ refusalIn v) (given : v ≡ verdictOf (windowsOpenRefusal targets c (length (m .hurdles)) (length (m .befores)) (length (m .aheads)))) (left : a ≡ openedWindows targets c (length (m .hurdles)) (length (m .befores)) (length (m .aheads))) where
+module _ (budget : ℕ) (targets : List ℕ) (c : ℕ) (m : Lent) (w : ℕ) (v : Verdict) (a : AnalogHistory) (t : FeeHistory) (answered : w ≡ verdictNumber v) (given : v ≡ verdictOf (windowsOpenRefusal targets c (length (m .hurdles)) (length (m .befores)) (length (m .aheads)))) (left : a ≡ openedWindows targets c (length (m .hurdles)) (length (m .befores)) (length (m .aheads))) where
   w-is : w ≡ windowsOpenRefusal targets c (length (m .hurdles)) (length (m .befores)) (length (m .aheads))
-  w-is = answered ∙ ap refusalIn given ∙ refusal-is _
+  w-is = answered ∙ ap verdictNumber given ∙ refusal-is _
 
   pub new-refused : (w ≡ 0 → ⊥) → t ≡ freshOf 0 a → Opens budget targets c m (refused w) t
   unfolding openRefusal openedWindows

@@ -21,7 +21,7 @@ use Rattle.rbitcoin_net.specs.Map.{isSome}
 use Rattle.rbitcoin_net.specs.History.{hurdleOf}
 use Rattle.rbitcoin_net.specs.Lent.{Rows, Hashes, Lent, lent, windowsOf, lentRefusal}
 use Rattle.rbitcoin_net.specs.Search.{bisect, placeOf, isAt, isHeld}
-use Rattle.rbitcoin_net.specs.Hashes.{kept, Room}
+use Rattle.rbitcoin_net.specs.Hashes.{hashList, Room}
 use Rattle.rbitcoin_net.specs.Cuts.{unkept}
 use Rattle.rbitcoin_net.specs.Rooms.{Roomy}
 use Rattle.rbitcoin_net.specs.Inserts.{insertIfAbsentRefusal, Placed, Whole, whole, Filed, filed, withWindows, pushRate, storeIn, storeWith, preloadWindows, preloadStale, insertIfAbsentIn}
@@ -99,7 +99,7 @@ module _ (h : ℕ) (s : FeeHistory) (m : Lent) (k : ℕ) (e : k ≡ sizesOf s m)
 
 module _ (h p : ℕ) (s : FeeHistory) (m : Lent) (x : Placed s m h p) where
   pub preload-ready : (o : Option ℕ) (stale : Bool) (a : AnalogHistory) (us : List ℕ) (bs : List Float) (ds : List ℕ) → s .count < s .analog .capacity → windows a us bs ds ≡ preloadWindows (p - s .start) (s .count) o (s .«analog_stale») (windowsOf s m)
-      → Roomy (p - s .start) (withWindows a stale (unkept s)) (length (m .rows .heights)) (length (m .rows .marks)) (length (m .rows .rates)) (length (m .rows .sizes)) × Room (kept (s .hashes) (m .hashes))
+      → Roomy (p - s .start) (withWindows a stale (unkept s)) (length (m .rows .heights)) (length (m .rows .marks)) (length (m .rows .rates)) (length (m .rows .sizes)) × Room (hashList (s .hashes) (m .hashes))
   preload-ready o stale a us bs ds l f =
       let v = serves s m (x .lent) in
       let r = v .rows-reach in

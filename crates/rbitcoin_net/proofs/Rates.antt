@@ -20,9 +20,9 @@ use Rattle.rbitcoin_mempool.proofs.Reach.{tracked-rate}
 use Rattle.rbitcoin_mempool.proofs.Rebuilds.{rebuild-done, rebuild-good, rebuilt-held}
 use Rattle.rbitcoin_mempool.proofs.Refusals.{rebuilds, refusing}
 use Rattle.rbitcoin_net.specs.Map.{Entry}
-use Rattle.rbitcoin_net.specs.History.{found, confidenceOf, rateFor, hurdlesOf, rebuilt, answered, keep, ratesOf, afterRates, setRates, setStale, setHurdles}
+use Rattle.rbitcoin_net.specs.History.{found, confidenceOf, rateFor, hurdlesOf, rebuilt, answered, keep, ratesAnswer, afterRates, setRates, setStale, setHurdles}
 use Rattle.rbitcoin_net.specs.Lent.{Rows, Hashes, lent, rowAt, heldRows, heldHashes, keptRates, view, Sound}
-use Rattle.rbitcoin_net.specs.Rates.{Rated, rated, windowsIn, lentTo, refreshed, refreshedIn, rateFrom, slots, keeping, answeredFrom, ratesIn, answersIn, Outputs, refusalFor, AnswersRates}
+use Rattle.rbitcoin_net.specs.Rates.{Rated, rated, windowsWith, lentTo, refreshed, refreshedIn, rateFrom, slots, keeping, answeredFrom, ratesIn, answersIn, Outputs, refusalFor, AnswersRates}
 use Rattle.rbitcoin_net.specs.Readers.{wrote}
 use Rattle.rbitcoin_net.specs.declared.fee_history.HistoricalFeeBlock.{HistoricalFeeBlock}
 use Rattle.rbitcoin_net.specs.declared.fee_history.FeeHistory.{FeeHistory}
@@ -68,7 +68,7 @@ module _ (z : ℕ) (m : Rows) (x : Rated) where
       ∙ sym (fresh-is k)
 
   pub fresh-tracked : (a : AnalogHistory) (us : List ℕ) (bs : List Float) (ds : List ℕ) → windows a us bs ds ≡ refreshedIn m x → a .tracked ≡ x .state .analog .tracked
-  fresh-tracked a us bs ds e = ap (λ (w : Windows). w .state .tracked) e ∙ refreshed-same (x .state .«analog_stale») (heldRows m (x .state)) (windowsIn x) .tracked
+  fresh-tracked a us bs ds e = ap (λ (w : Windows). w .state .tracked) e ∙ refreshed-same (x .state .«analog_stale») (heldRows m (x .state)) (windowsWith x) .tracked
 
   pub fresh-scratch : (a : AnalogHistory) (us : List ℕ) (bs : List Float) (ds : List ℕ) → windows a us bs ds ≡ refreshedIn m x → ((d : ℕ) → d < x .state .analog .tracked → rateFrom (refreshedIn m x) z d ≡ none) → (d : ℕ) → d < a .tracked → rateFrom (windows a us bs ds) z d ≡ none
   fresh-scratch a us bs ds e h d l = ap (λ w. rateFrom w z d) e ∙ h d (subst (λ n. d < n) (fresh-tracked a us bs ds e) l)
@@ -79,7 +79,7 @@ module _ (z : ℕ) (m : Rows) (x : Rated) where
     where
       by : (b : Bool) → cond b x (answeredFrom z (refreshedIn m x) (x .state)) .state .analog .tracked ≡ x .state .analog .tracked
       by true = refl
-      by false = refreshed-same (x .state .«analog_stale») (heldRows m (x .state)) (windowsIn x) .tracked
+      by false = refreshed-same (x .state .«analog_stale») (heldRows m (x .state)) (windowsWith x) .tracked
 
 -- ---- kept rates are the rates
 
@@ -131,15 +131,15 @@ module _ (m : Rows) (z : Hashes) (x : Rated) (k : Sound (x .state) (lentTo m z x
     pub good : Good w
     pub holds : heldIn w ≡ hurdlesOf (heldRows m (x .state))
 
-  by-stale : (b : Bool) → x .state .«analog_stale» ≡ b → Refreshed b (refreshed b (heldRows m (x .state)) (windowsIn x))
+  by-stale : (b : Bool) → x .state .«analog_stale» ≡ b → Refreshed b (refreshed b (heldRows m (x .state)) (windowsWith x))
   unfolding refreshed
   by-stale true e =
       let v = serves (x .state) (lentTo m z x) (k .lent) .windows in
       let r = rebuilds (x .state .analog) (length (x .hurdles)) (length (x .befores)) (length (x .aheads)) v (length (hurdlesOf (heldRows m (x .state)))) rates-few in
-      let d = rebuild-done (hurdlesOf (heldRows m (x .state))) (windowsIn x) r in
+      let d = rebuild-done (hurdlesOf (heldRows m (x .state))) (windowsWith x) r in
       record {
-        good = subst Good (sym d) (rebuild-good (hurdlesOf (heldRows m (x .state))) (windowsIn x) (sound-good (x .state) (lentTo m z x) k));
-        holds = ap heldIn d ∙ rebuilt-held (hurdlesOf (heldRows m (x .state))) (windowsIn x) r;
+        good = subst Good (sym d) (rebuild-good (hurdlesOf (heldRows m (x .state))) (windowsWith x) (sound-good (x .state) (lentTo m z x) k));
+        holds = ap heldIn d ∙ rebuilt-held (hurdlesOf (heldRows m (x .state))) (windowsWith x) r;
       }
   by-stale false e = record { good = sound-good (x .state) (lentTo m z x) k; holds = k .hurdles e }
 
@@ -153,7 +153,7 @@ module _ (m : Rows) (z : Hashes) (x : Rated) (k : Sound (x .state) (lentTo m z x
   left p = answeredFrom p (refreshedIn m x) (x .state)
 
   w-same : Same (refreshedIn m x .state) (x .state .analog)
-  w-same = refreshed-same (x .state .«analog_stale») (heldRows m (x .state)) (windowsIn x)
+  w-same = refreshed-same (x .state .«analog_stale») (heldRows m (x .state)) (windowsWith x)
 
   left-serves : (p : ℕ) → Serves (left p .state) (lentTo m z (left p))
   unfolding answeredFrom
@@ -229,8 +229,8 @@ module _ (m : Rows) (z : Hashes) (x : Rated) (k : Sound (x .state) (lentTo m z x
         }
 
     -- by the kept mark
-    answers-by : (b : Bool) → x .state .kept ≡ b → answersIn (cond b x (left p) .state) ≡ ratesOf (view (x .state) (lentTo m z x))
-    unfolding ratesOf view keptRates answersIn
+    answers-by : (b : Bool) → x .state .kept ≡ b → answersIn (cond b x (left p) .state) ≡ ratesAnswer (view (x .state) (lentTo m z x))
+    unfolding ratesAnswer view keptRates answersIn
     answers-by true e = sym (ap (λ c. answered (cond c (some (answersIn (x .state))) none) (view (x .state) (lentTo m z x))) e)
     answers-by false e = left-answers ∙ sym (ap (λ c. answered (cond c (some (answersIn (x .state))) none) (view (x .state) (lentTo m z x))) e)
 
@@ -239,7 +239,7 @@ module _ (m : Rows) (z : Hashes) (x : Rated) (k : Sound (x .state) (lentTo m z x
     view-by true e = sym (ap (λ c. keep (cond c (some (answersIn (x .state))) none) (view (x .state) (lentTo m z x))) e)
     view-by false e = left-view ∙ sym (ap (λ c. keep (cond c (some (answersIn (x .state))) none) (view (x .state) (lentTo m z x))) e)
 
-    pub rates-answers : answersIn (ratesIn p m x .state) ≡ ratesOf (view (x .state) (lentTo m z x))
+    pub rates-answers : answersIn (ratesIn p m x .state) ≡ ratesAnswer (view (x .state) (lentTo m z x))
     unfolding ratesIn
     rates-answers = answers-by (x .state .kept) refl
 

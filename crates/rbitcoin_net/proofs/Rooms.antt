@@ -10,7 +10,7 @@ use lib.Seq.{getD-set-same, getD-set-other}
 use borrow.Author.Tests.{le-leb, lt-leb, lt-ltb, le-ltb, eq-eqb, ne-eqb, eqb-false}
 use Rattle.slices.specs.Lists.{tabulate, moved, copyWithin}
 use Rattle.slices.proofs.Runs.{copied, length-moved, moved-below, moved-in, moved-above}
-use Rattle.rbitcoin_net.specs.Rooms.{opened, freeOf, startWith, Stored, stored, holdAt, Roomy}
+use Rattle.rbitcoin_net.specs.Rooms.{rowPut, freeOf, startWith, Stored, stored, holdAt, Roomy}
 use Rattle.rbitcoin_mempool.specs.declared.answer.Rate.{Rate}
 use Rattle.rbitcoin_mempool.specs.declared.answer.Rate.the-variants.{There, Missing}
 use Rattle.rbitcoin_mempool.specs.Rates.{given, markOf, numberOf}
@@ -40,16 +40,16 @@ module _ {A : Type 0} (xs : List A) (from to q r : ℕ) (source : from + q + r �
 
   -- the code's two moves
   module _ (v : A) (ys zs : List A) where
-    pub open-down : to ≤ from → ys ≡ copyWithin xs to from q → zs ≡ copyWithin ys (to + q + 1) (from + q) r → set zs (to + q) v ≡ opened from to q r v xs
-    unfolding opened
+    pub open-down : to ≤ from → ys ≡ copyWithin xs to from q → zs ≡ copyWithin ys (to + q + 1) (from + q) r → set zs (to + q) v ≡ rowPut from to q r v xs
+    unfolding rowPut
     open-down l e d =
         let u : ys ≡ low = e ∙ copied xs to from q (omega arith) (omega arith) in
         let n = low-long in
         let w : zs ≡ moved low (to + q + 1) (from + q) r = d ∙ ap (λ k. copyWithin k (to + q + 1) (from + q) r) u ∙ copied low (to + q + 1) (from + q) r (omega arith) (omega arith) in
         rw (le-leb to from l) (ap (λ k. set k (to + q) v) w)
 
-    pub open-up : from < to → ys ≡ copyWithin xs (to + q + 1) (from + q) r → zs ≡ copyWithin ys to from q → set zs (to + q) v ≡ opened from to q r v xs
-    unfolding opened
+    pub open-up : from < to → ys ≡ copyWithin xs (to + q + 1) (from + q) r → zs ≡ copyWithin ys to from q → set zs (to + q) v ≡ rowPut from to q r v xs
+    unfolding rowPut
     open-up l e d =
         let u : ys ≡ high = e ∙ copied xs (to + q + 1) (from + q) r (omega arith) (omega arith) in
         let n = high-long in
@@ -58,16 +58,16 @@ module _ {A : Type 0} (xs : List A) (from to q r : ℕ) (source : from + q + r �
 
   -- what stands where
   module _ (z v : A) where
-    pub opened-long : length (opened from to q r v xs) ≡ length xs
-    unfolding opened
-    opened-long =
+    pub rowPut-long : length (rowPut from to q r v xs) ≡ length xs
+    unfolding rowPut
+    rowPut-long =
         either from to
         (λ up. rw (lt-leb to from up) (length-set (moved high to from q) (to + q) v ∙ (let n = high-long in length-moved high to from q (omega arith) (omega arith) ∙ n)))
         (λ down. rw (le-leb to from down) (length-set (moved low (to + q + 1) (from + q) r) (to + q) v ∙ (let n = low-long in length-moved low (to + q + 1) (from + q) r (omega arith) (omega arith) ∙ n)))
 
-    pub opened-low : (i : ℕ) → i < q → getD (opened from to q r v xs) (to + i) z ≡ getD xs (from + i) z
-    unfolding opened
-    opened-low i l =
+    pub rowPut-low : (i : ℕ) → i < q → getD (rowPut from to q r v xs) (to + i) z ≡ getD xs (from + i) z
+    unfolding rowPut
+    rowPut-low i l =
         let ne : to + i ≡ to + q → ⊥ = λ e. omega arith in
         either from to
         (λ up.
@@ -83,9 +83,9 @@ module _ {A : Type 0} (xs : List A) (from to q r : ℕ) (source : from + q + r �
         ∙ moved-below low (to + q + 1) (from + q) r z (omega arith) (omega arith) (to + i) (omega arith)
         ∙ moved-in xs to from q z (omega arith) (omega arith) i l))
 
-    pub opened-here : getD (opened from to q r v xs) (to + q) z ≡ v
-    unfolding opened
-    opened-here =
+    pub rowPut-here : getD (rowPut from to q r v xs) (to + q) z ≡ v
+    unfolding rowPut
+    rowPut-here =
         either from to
         (λ up.
         let n = high-long in
@@ -96,9 +96,9 @@ module _ {A : Type 0} (xs : List A) (from to q r : ℕ) (source : from + q + r �
         let m = length-moved low (to + q + 1) (from + q) r (omega arith) (omega arith) in
         rw (le-leb to from down) (getD-set-same (moved low (to + q + 1) (from + q) r) (to + q) v z (omega arith)))
 
-    pub opened-high : (i : ℕ) → i < r → getD (opened from to q r v xs) (to + q + 1 + i) z ≡ getD xs (from + q + i) z
-    unfolding opened
-    opened-high i l =
+    pub rowPut-high : (i : ℕ) → i < r → getD (rowPut from to q r v xs) (to + q + 1 + i) z ≡ getD xs (from + q + i) z
+    unfolding rowPut
+    rowPut-high i l =
         let ne : to + q + 1 + i ≡ to + q → ⊥ = λ e. omega arith in
         either from to
         (λ up.
@@ -187,18 +187,18 @@ module _ (q h : ℕ) (b : HistoricalFeeBlock) (s : FeeHistory) (m : Rows) (p : R
   unfolding holdAt
   low-row i l =
       row-ext (after .rows) m (to + i) (s .start + i)
-      (opened-low (m .heights) (s .start) to q behind (source _ (p .heights)) (target _ (p .heights)) 0 h i l)
-      (opened-low (m .marks) (s .start) to q behind (source _ (p .marks)) (target _ (p .marks)) 0 (markOf (hurdleOf b)) i l)
-      (opened-low (m .rates) (s .start) to q behind (source _ (p .rates)) (target _ (p .rates)) 0 (numberOf (hurdleOf b)) i l)
-      (opened-low (m .sizes) (s .start) to q behind (source _ (p .sizes)) (target _ (p .sizes)) 0 (b .«txstat_bytes») i l)
+      (rowPut-low (m .heights) (s .start) to q behind (source _ (p .heights)) (target _ (p .heights)) 0 h i l)
+      (rowPut-low (m .marks) (s .start) to q behind (source _ (p .marks)) (target _ (p .marks)) 0 (markOf (hurdleOf b)) i l)
+      (rowPut-low (m .rates) (s .start) to q behind (source _ (p .rates)) (target _ (p .rates)) 0 (numberOf (hurdleOf b)) i l)
+      (rowPut-low (m .sizes) (s .start) to q behind (source _ (p .sizes)) (target _ (p .sizes)) 0 (b .«txstat_bytes») i l)
 
   new-row : rowAt (after .rows) (to + q) ≡ entry h b
   unfolding holdAt
   new-row =
-      let e = opened-here (m .heights) (s .start) to q behind (source _ (p .heights)) (target _ (p .heights)) 0 h in
-      let k = opened-here (m .marks) (s .start) to q behind (source _ (p .marks)) (target _ (p .marks)) 0 (markOf (hurdleOf b)) in
-      let n = opened-here (m .rates) (s .start) to q behind (source _ (p .rates)) (target _ (p .rates)) 0 (numberOf (hurdleOf b)) in
-      let z = opened-here (m .sizes) (s .start) to q behind (source _ (p .sizes)) (target _ (p .sizes)) 0 (b .«txstat_bytes») in
+      let e = rowPut-here (m .heights) (s .start) to q behind (source _ (p .heights)) (target _ (p .heights)) 0 h in
+      let k = rowPut-here (m .marks) (s .start) to q behind (source _ (p .marks)) (target _ (p .marks)) 0 (markOf (hurdleOf b)) in
+      let n = rowPut-here (m .rates) (s .start) to q behind (source _ (p .rates)) (target _ (p .rates)) 0 (numberOf (hurdleOf b)) in
+      let z = rowPut-here (m .sizes) (s .start) to q behind (source _ (p .sizes)) (target _ (p .sizes)) 0 (b .«txstat_bytes») in
       (λ t. entry (e t) (record { «p10_sat_kvb» = rateOf (k t) (n t); «txstat_bytes» = z t }))
       ∙ (λ t. entry h (record { «p10_sat_kvb» = rate-back (b .«p10_sat_kvb») t; «txstat_bytes» = b .«txstat_bytes» }))
 
@@ -206,10 +206,10 @@ module _ (q h : ℕ) (b : HistoricalFeeBlock) (s : FeeHistory) (m : Rows) (p : R
   unfolding holdAt
   high-row i l =
       row-ext (after .rows) m (to + q + 1 + i) (s .start + q + i)
-      (opened-high (m .heights) (s .start) to q behind (source _ (p .heights)) (target _ (p .heights)) 0 h i l)
-      (opened-high (m .marks) (s .start) to q behind (source _ (p .marks)) (target _ (p .marks)) 0 (markOf (hurdleOf b)) i l)
-      (opened-high (m .rates) (s .start) to q behind (source _ (p .rates)) (target _ (p .rates)) 0 (numberOf (hurdleOf b)) i l)
-      (opened-high (m .sizes) (s .start) to q behind (source _ (p .sizes)) (target _ (p .sizes)) 0 (b .«txstat_bytes») i l)
+      (rowPut-high (m .heights) (s .start) to q behind (source _ (p .heights)) (target _ (p .heights)) 0 h i l)
+      (rowPut-high (m .marks) (s .start) to q behind (source _ (p .marks)) (target _ (p .marks)) 0 (markOf (hurdleOf b)) i l)
+      (rowPut-high (m .rates) (s .start) to q behind (source _ (p .rates)) (target _ (p .rates)) 0 (numberOf (hurdleOf b)) i l)
+      (rowPut-high (m .sizes) (s .start) to q behind (source _ (p .sizes)) (target _ (p .sizes)) 0 (b .«txstat_bytes») i l)
 
   pub held-rows : heldRows (after .rows) (after .state) ≡ tabulate (rowAt m) (s .start) q ++ entry h b ∷ tabulate (rowAt m) (s .start + q) behind
   unfolding heldRows holdAt
@@ -237,10 +237,10 @@ hold-view h b s m q p asc e t =
 
 -- the code's four lists and state
 pub held-at : (q h : ℕ) (b : HistoricalFeeBlock) (s : FeeHistory) (hs ms rs zs hs′ ms′ rs′ zs′ : List ℕ) (to mark number total : ℕ) → to ≡ startWith s q → mark ≡ markOf (hurdleOf b) → number ≡ numberOf (hurdleOf b) → total ≡ saturatingAdd (s .«txstat_bytes») (b .«txstat_bytes»)
-    → hs′ ≡ opened (s .start) to q (s .count - q) h hs → ms′ ≡ opened (s .start) to q (s .count - q) mark ms → rs′ ≡ opened (s .start) to q (s .count - q) number rs → zs′ ≡ opened (s .start) to q (s .count - q) (b .«txstat_bytes») zs
+    → hs′ ≡ rowPut (s .start) to q (s .count - q) h hs → ms′ ≡ rowPut (s .start) to q (s .count - q) mark ms → rs′ ≡ rowPut (s .start) to q (s .count - q) number rs → zs′ ≡ rowPut (s .start) to q (s .count - q) (b .«txstat_bytes») zs
     → stored (withRows to (s .count + 1) (withSums (s .analog) total s)) (rows hs′ ms′ rs′ zs′) ≡ holdAt q h b (stored s (rows hs ms rs zs))
 unfolding holdAt
 held-at q h b s hs ms rs zs hs′ ms′ rs′ zs′ to mark number total a k n d e f g i =
     let r = s .count - q in
     (λ j. stored (withRows to (s .count + 1) (withSums (s .analog) total s)) (rows (e j) (f j) (g j) (i j)))
-    ∙ (λ j. stored (withRows (a j) (s .count + 1) (withSums (s .analog) (d j) s)) (rows (opened (s .start) (a j) q r h hs) (opened (s .start) (a j) q r (k j) ms) (opened (s .start) (a j) q r (n j) rs) (opened (s .start) (a j) q r (b .«txstat_bytes») zs)))
+    ∙ (λ j. stored (withRows (a j) (s .count + 1) (withSums (s .analog) (d j) s)) (rows (rowPut (s .start) (a j) q r h hs) (rowPut (s .start) (a j) q r (k j) ms) (rowPut (s .start) (a j) q r (n j) rs) (rowPut (s .start) (a j) q r (b .«txstat_bytes») zs)))

@@ -16,7 +16,7 @@ use Rattle.rbitcoin_net.specs.Cuts.{truncateIn, truncateRefusalOf}
 use Rattle.rbitcoin_net.specs.Inserts.{Whole, whole, insertRefusal, insertIn, insertIfAbsentRefusal, insertIfAbsentIn}
 use Rattle.rbitcoin_net.specs.Openings.{freshOf, openRefusal}
 use Rattle.rbitcoin_net.specs.Sums.{sumOf, Exact}
-use Rattle.rbitcoin_net.specs.Runs.{Call, connect, preload, cut, ask, other, ratedOf, wholeOf, callIn, runIn, Given, GivenAll, moment, SumsFit}
+use Rattle.rbitcoin_net.specs.Runs.{Call, connect, preload, cut, ask, other, ratedOf, wholeOf, callIn, runIn, InRange32, AllInRange32, moment, SumsFit}
 use Rattle.rbitcoin_net.proofs.CutSound.{cut-sound, cut-means}
 use Rattle.rbitcoin_net.proofs.Connects.{insert-sound, insert-means}
 use Rattle.rbitcoin_net.proofs.Preloads.{both}
@@ -86,7 +86,7 @@ module _ (x : Whole) (k : SoundAt x) where
         exact = λ l e. subst Exact (sym (rates-means (m .rows) (m .hashes) (ratedOf x) k z f)) (rates-exact (view s m) e);
       }
 
-  call-keeps : (c : Call) → Given c → Keeps x (moment c x) (callIn c x)
+  call-keeps : (c : Call) → InRange32 c → Keeps x (moment c x) (callIn c x)
   unfolding callIn moment
   call-keeps (connect h b z) g = go (eqb (insertRefusal h s m) 0) refl
     where
@@ -110,12 +110,12 @@ module _ (x : Whole) (k : SoundAt x) where
       go false e = unchanged x 0 k
   call-keeps other g = unchanged x 0 k
 
-pub run-sound : (cs : List Call) (x : Whole) → SoundAt x → GivenAll cs → SoundAt (runIn cs x)
+pub run-sound : (cs : List Call) (x : Whole) → SoundAt x → AllInRange32 cs → SoundAt (runIn cs x)
 unfolding runIn
 run-sound [] x k g = k
 run-sound (c ∷ cs) x k g = run-sound cs (callIn c x) (call-keeps x k c (g .0) .sound) (g .1)
 
-pub run-exact : (cs : List Call) (x : Whole) → SoundAt x → GivenAll cs → SumsFit cs x → ExactAt x → ExactAt (runIn cs x)
+pub run-exact : (cs : List Call) (x : Whole) → SoundAt x → AllInRange32 cs → SumsFit cs x → ExactAt x → ExactAt (runIn cs x)
 unfolding runIn
 run-exact [] x k g f e = e
 run-exact (c ∷ cs) x k g f e =
@@ -127,6 +127,6 @@ module _ (budget : ℕ) (targets : List ℕ) (c : ℕ) (m : Lent) (z : openRefus
   abbrev opening : Whole
   opening = whole (freshOf budget (freshWindows targets c)) m
 
-  pub total-true : (cs : List Call) → GivenAll cs → SumsFit cs opening → runIn cs opening .state .«txstat_bytes» ≡ sumOf (heldRows (runIn cs opening .memory .rows) (runIn cs opening .state))
+  pub total-true : (cs : List Call) → AllInRange32 cs → SumsFit cs opening → runIn cs opening .state .«txstat_bytes» ≡ sumOf (heldRows (runIn cs opening .memory .rows) (runIn cs opening .state))
   unfolding view
   total-true cs g f = run-exact cs opening (open-sound budget targets c m z) g f (subst Exact (sym (open-view budget targets c m z)) (new-exact budget targets))

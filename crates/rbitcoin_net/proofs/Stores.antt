@@ -18,14 +18,14 @@ use Rattle.rbitcoin_net.specs.Map.{Entry, entry, Ascends, insert}
 use Rattle.rbitcoin_net.specs.History.{History, setHashes, setHurdles, setStale, hurdleOf, hold, noteHash, hurdlesOf, evict, newest}
 use Rattle.rbitcoin_net.specs.Lent.{Rows, Hashes, Lent, lent, rowAt, heldRows, heldHashes, hashesIn, keptRates, view, Sound}
 use Rattle.rbitcoin_net.specs.Search.{placeOf, isAt, isHeld}
-use Rattle.rbitcoin_net.specs.Hashes.{Kept, kept, Room, Whole32, hashPlace, noteHashIn}
+use Rattle.rbitcoin_net.specs.Hashes.{HashList, hashList, Room, Whole32, hashPlace, noteHashIn}
 use Rattle.rbitcoin_net.specs.Cuts.{withHashes}
 use Rattle.rbitcoin_net.specs.Rooms.{startWith, Stored, stored, holdAt, Roomy}
 use Rattle.rbitcoin_net.specs.Inserts.{Whole, withWindows, storeIn, storeWith}
 use Rattle.rbitcoin_net.proofs.Tables.{Parts}
 use Rattle.rbitcoin_net.proofs.Search.{place-parts}
 use Rattle.rbitcoin_net.proofs.Refusals.{Serves, serves, serves-lent}
-use Rattle.rbitcoin_net.proofs.Rooms.{opened-long, start-room, source, target, held-rows, hold-view}
+use Rattle.rbitcoin_net.proofs.Rooms.{rowPut-long, start-room, source, target, held-rows, hold-view}
 use Rattle.rbitcoin_net.proofs.MapLaws.{insert-ascends, newest-ascends}
 use Rattle.rbitcoin_net.proofs.CutViews.{hash-parts}
 use Rattle.rbitcoin_net.proofs.HashViews.{note-view, note-room}
@@ -114,10 +114,10 @@ module _ (q h : ℕ) (b : HistoricalFeeBlock) (m : Rows) (z : Hashes) (us : List
       let l = start-room q h b before m roomy in
       let n = before .count - q in
       let to = startWith before q in
-      let a = opened-long (m .heights) (s .start) to q n (source q h b before m roomy _ (roomy .heights)) (target q h b before m roomy _ (roomy .heights)) 0 h in
-      let d = opened-long (m .marks) (s .start) to q n (source q h b before m roomy _ (roomy .marks)) (target q h b before m roomy _ (roomy .marks)) 0 (markOf (hurdleOf b)) in
-      let e = opened-long (m .rates) (s .start) to q n (source q h b before m roomy _ (roomy .rates)) (target q h b before m roomy _ (roomy .rates)) 0 (numberOf (hurdleOf b)) in
-      let g = opened-long (m .sizes) (s .start) to q n (source q h b before m roomy _ (roomy .sizes)) (target q h b before m roomy _ (roomy .sizes)) 0 (b .«txstat_bytes») in
+      let a = rowPut-long (m .heights) (s .start) to q n (source q h b before m roomy _ (roomy .heights)) (target q h b before m roomy _ (roomy .heights)) 0 h in
+      let d = rowPut-long (m .marks) (s .start) to q n (source q h b before m roomy _ (roomy .marks)) (target q h b before m roomy _ (roomy .marks)) 0 (markOf (hurdleOf b)) in
+      let e = rowPut-long (m .rates) (s .start) to q n (source q h b before m roomy _ (roomy .rates)) (target q h b before m roomy _ (roomy .rates)) 0 (numberOf (hurdleOf b)) in
+      let g = rowPut-long (m .sizes) (s .start) to q n (source q h b before m roomy _ (roomy .sizes)) (target q h b before m roomy _ (roomy .sizes)) 0 (b .«txstat_bytes») in
       record {
         rows-within = omega arith;
         hashes-few = v .hashes-few;
@@ -140,16 +140,16 @@ module _ (q h : ℕ) (b : HistoricalFeeBlock) (m : Rows) (z : Hashes) (us : List
 -- ---- a hash noted
 
 module _ (h : ℕ) (m : Rows) (z : Hashes) (us : List ℕ) (bs : List Float) (ds : List ℕ) (s : FeeHistory) (x : Sound s (lent m z us bs ds)) where
-  abbrev noted : Option (List ℕ) → Kept
-  noted hash = noteHashIn h hash (kept (s .hashes) z)
+  abbrev noted : Option (List ℕ) → HashList
+  noted hash = noteHashIn h hash (hashList (s .hashes) z)
 
-  room-for : Room (kept (s .hashes) z)
+  room-for : Room (hashList (s .hashes) z)
   room-for =
       let v = serves s (lent m z us bs ds) (x .lent) in
       record { few = v .hashes-few; heights = v .heights-reach; bytes = v .bytes-reach }
 
   note-is : (bytes : List ℕ) → length bytes ≡ 32 → hashesIn (noted (some bytes) .count) (noted (some bytes) .lists) ≡ newest (insert h bytes (hashesIn (s .hashes) z))
-  note-is bytes len = note-view h bytes len (kept (s .hashes) z) room-for (x .hashes-ascend)
+  note-is bytes len = note-view h bytes len (hashList (s .hashes) z) room-for (x .hashes-ascend)
 
   pub note-means : (hash : Option (List ℕ)) → Whole32 hash → view (withHashes (noted hash .count) s) (lent m (noted hash .lists) us bs ds) ≡ noteHash h hash (view s (lent m z us bs ds))
   unfolding view keptRates heldRows
@@ -163,7 +163,7 @@ module _ (h : ℕ) (m : Rows) (z : Hashes) (us : List ℕ) (bs : List Float) (ds
       let k = noted (some bytes) in
       let v = serves s (lent m z us bs ds) (x .lent) in
       let p = hash-parts m z us bs ds h (s .hashes) (x .hashes-ascend) in
-      let r = note-room (hashPlace h (kept (s .hashes) z)) h bytes len (kept (s .hashes) z) room-for (p .high) in
+      let r = note-room (hashPlace h (hashList (s .hashes) z)) h bytes len (hashList (s .hashes) z) room-for (p .high) in
       record {
         lent =
             serves-lent (withHashes (k .count) s) (lent m (k .lists) us bs ds)
@@ -182,8 +182,8 @@ module _ (q h : ℕ) (b : HistoricalFeeBlock) (hash : Option (List ℕ)) (len : 
   abbrev stored-so : Stored
   stored-so = holdAt q h b (stored (withWindows (w .state) stale s) m)
 
-  abbrev noted-so : Kept
-  noted-so = noteHashIn h hash (kept (stored-so .state .hashes) z)
+  abbrev noted-so : HashList
+  noted-so = noteHashIn h hash (hashList (stored-so .state .hashes) z)
 
   abbrev result : Whole
   result = storeWith q h b hash w stale s m z

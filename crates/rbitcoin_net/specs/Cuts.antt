@@ -14,7 +14,7 @@ use Rattle.rbitcoin_mempool.specs.Windows.{orElse, popBackOf}
 use Rattle.rbitcoin_net.specs.History.{next, hurdleOf, truncateAbove}
 use Rattle.rbitcoin_net.specs.Lent.{Rows, Hashes, lent, view, Sound, stateRefusal, rowsRefusal, hashesRefusal}
 use Rattle.rbitcoin_net.specs.Search.{placeOf}
-use Rattle.rbitcoin_net.specs.Hashes.{kept, hashPlace}
+use Rattle.rbitcoin_net.specs.Hashes.{hashList, hashPlace}
 use Rattle.rbitcoin_net.specs.declared.fee_history.HistoricalFeeBlock.{HistoricalFeeBlock}
 use Rattle.rbitcoin_net.specs.declared.fee_history.FeeHistory.{FeeHistory}
 
@@ -51,7 +51,7 @@ cutAt m p s = withRows (s .start) (p - s .start) (forgetRows popBackOf m p (s .s
 
 -- the rows and the hashes from height k on dropped
 unfoldable pub dropFrom : ℕ → Rows → Hashes → FeeHistory → FeeHistory
-dropFrom k m z s = withHashes (hashPlace k (kept (s .hashes) z)) (unkept (cutAt m (placeOf (m .heights) s k) s))
+dropFrom k m z s = withHashes (hashPlace k (hashList (s .hashes) z)) (unkept (cutAt m (placeOf (m .heights) s k) s))
 
 -- `truncate_above`: from the next height on
 abbrev pub truncateIn : ℕ → Rows → Hashes → FeeHistory → FeeHistory

@@ -12,12 +12,12 @@ use Rattle.rbitcoin_net.specs.Search.{bisect, isAt}
 use Rattle.rbitcoin_net.specs.declared.fee_history.BlockHash.{BlockHash}
 
 -- the number of hashes, with the two lists
-pub record Kept : Type 0 where
+pub record HashList : Type 0 where
   pub count : ℕ
   pub lists : Hashes
 
-abbrev pub kept : ℕ → Hashes → Kept
-kept n z = record { count = n; lists = z }
+abbrev pub hashList : ℕ → Hashes → HashList
+hashList n z = record { count = n; lists = z }
 
 -- a hash that is there, or none
 abbrev pub hashOf : BlockHash → Option (List ℕ)
@@ -29,7 +29,7 @@ Whole32 none = Unit
 Whole32 (some bytes) = length bytes ≡ 32
 
 -- the lists reach 144 heights and as many hashes, and no more are kept
-pub record Room (k : Kept) : Type 0 where
+pub record Room (k : HashList) : Type 0 where
   pub few : k .count ≤ 144
   pub heights : 144 ≤ length (k .lists .heights)
   pub bytes : 4608 ≤ length (k .lists .bytes)
@@ -43,24 +43,24 @@ abbrev pub putHash : ℕ → ℕ → List ℕ → Hashes → Hashes
 putHash q h bytes z = hashes (set (z .heights) q h) (take (32 * q) (z .bytes) ++ bytes ++ drop (32 * q + 32) (z .bytes))
 
 -- the place of a height
-unfoldable pub hashPlace : ℕ → Kept → ℕ
+unfoldable pub hashPlace : ℕ → HashList → ℕ
 hashPlace h k = bisect (k .count) (k .lists .heights) h 0 (k .count)
 
 -- `hashes.remove`
-unfoldable pub removeAt : ℕ → Kept → Kept
-removeAt q k = kept (k .count - 1) (movedHashes q (q + 1) (k .count - q - 1) (k .lists))
+unfoldable pub removeAt : ℕ → HashList → HashList
+removeAt q k = hashList (k .count - 1) (movedHashes q (q + 1) (k .count - q - 1) (k .lists))
 
-unfoldable pub removeHash : ℕ → Kept → Kept
+unfoldable pub removeHash : ℕ → HashList → HashList
 removeHash h k = cond (isAt (k .lists .heights) (k .count) h (hashPlace h k)) (removeAt (hashPlace h k) k) k
 
 -- `note_hash` at a place: replaced where the height is kept; put in where fewer than 144 are; else the oldest goes, the new one itself where it is
-unfoldable pub noteAt : ℕ → ℕ → List ℕ → Kept → Kept
+unfoldable pub noteAt : ℕ → ℕ → List ℕ → HashList → HashList
 noteAt q h bytes k =
-    cond (isAt (k .lists .heights) (k .count) h q) (kept (k .count) (putHash q h bytes (k .lists)))
-    (cond (ltb (k .count) 144) (kept (k .count + 1) (putHash q h bytes (movedHashes (q + 1) q (k .count - q) (k .lists))))
+    cond (isAt (k .lists .heights) (k .count) h q) (hashList (k .count) (putHash q h bytes (k .lists)))
+    (cond (ltb (k .count) 144) (hashList (k .count + 1) (putHash q h bytes (movedHashes (q + 1) q (k .count - q) (k .lists))))
     (cond (eqb q 0) k
-    (kept (k .count) (putHash (q - 1) h bytes (movedHashes 0 1 (q - 1) (k .lists))))))
+    (hashList (k .count) (putHash (q - 1) h bytes (movedHashes 0 1 (q - 1) (k .lists))))))
 
-abbrev pub noteHashIn : ℕ → Option (List ℕ) → Kept → Kept
+abbrev pub noteHashIn : ℕ → Option (List ℕ) → HashList → HashList
 noteHashIn h none k = k
 noteHashIn h (some bytes) k = noteAt (hashPlace h k) h bytes k

@@ -175,8 +175,8 @@ keep (some rs) x = x
 keep none x = setRates (some (answered none x)) (rebuilt x)
 
 -- what `rates` answers, and what it leaves
-unfoldable pub ratesOf : History → List (Option ℕ)
-ratesOf x = answered (x .rates) x
+unfoldable pub ratesAnswer : History → List (Option ℕ)
+ratesAnswer x = answered (x .rates) x
 
 unfoldable pub afterRates : History → History
 afterRates x = keep (x .rates) x

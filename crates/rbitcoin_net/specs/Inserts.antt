@@ -14,10 +14,10 @@ use Rattle.rbitcoin_net.specs.Map.{isSome, below, containsKey}
 use Rattle.rbitcoin_net.specs.History.{hurdleOf, insertOf, insertIfAbsentOf}
 use Rattle.rbitcoin_net.specs.Lent.{Rows, Hashes, Lent, lent, windowsOf, view, Sound, stateRefusal, rowsRefusal, hashesRefusal, lentRefusal}
 use Rattle.rbitcoin_net.specs.Search.{placeOf, isHeld}
-use Rattle.rbitcoin_net.specs.Hashes.{kept, noteHashIn}
+use Rattle.rbitcoin_net.specs.Hashes.{hashList, noteHashIn}
 use Rattle.rbitcoin_net.specs.Cuts.{withHashes, unkept, dropFrom}
 use Rattle.rbitcoin_net.specs.Rooms.{stored, holdAt}
-use Rattle.rbitcoin_net.specs.Evictions.{held, evictIn}
+use Rattle.rbitcoin_net.specs.Evictions.{hashed, evictIn}
 use Rattle.rbitcoin_net.specs.declared.fee_history.HistoricalFeeBlock.{HistoricalFeeBlock}
 use Rattle.rbitcoin_net.specs.declared.fee_history.FeeHistory.{FeeHistory}
 
@@ -72,8 +72,8 @@ pushRate push (some r) false w = push r w
 unfoldable pub storeIn : ℕ → ℕ → HistoricalFeeBlock → Option (List ℕ) → Filed → Filed
 storeIn q h b hash x =
     let y = holdAt q h b (stored (x .state) (x .rows)) in
-    let k = noteHashIn h hash (kept (y .state .hashes) (x .hashes)) in
-    let e = evictIn (y .rows) (held (withHashes (k .count) (y .state)) (k .lists)) in
+    let k = noteHashIn h hash (hashList (y .state .hashes) (x .hashes)) in
+    let e = evictIn (y .rows) (hashed (withHashes (k .count) (y .state)) (k .lists)) in
     filed (e .state) (y .rows) (e .hashes)
 
 -- the same with windows that were changed before

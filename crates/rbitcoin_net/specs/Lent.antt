@@ -102,12 +102,9 @@ rowsRefusal c h m r z = cond (ltb h c) 5 (cond (ltb m c) 5 (cond (ltb r c) 5 (co
 unfoldable pub hashesRefusal : ℕ → ℕ → ℕ
 hashesRefusal h b = cond (ltb h 144) 5 (cond (ltb b 4608) 5 0)
 
--- of a call that lends the rows alone, or the hashes alone; each after the state's
+-- of a call that lends the rows alone, after the state's
 abbrev pub rowsRefusalOf : FeeHistory → Rows → ℕ
 rowsRefusalOf s m = orElse (stateRefusal s) (rowsRefusal (s .analog .capacity) (length (m .heights)) (length (m .marks)) (length (m .rates)) (length (m .sizes)))
-
-abbrev pub hashesRefusalOf : FeeHistory → Hashes → ℕ
-hashesRefusalOf s z = orElse (stateRefusal s) (hashesRefusal (length (z .heights)) (length (z .bytes)))
 
 -- of a call that lends all
 unfoldable pub lentRefusal : FeeHistory → Lent → ℕ

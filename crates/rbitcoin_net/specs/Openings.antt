@@ -18,9 +18,9 @@ unfoldable pub freshOf : ℕ → AnalogHistory → FeeHistory
 freshOf budget a = record { analog = a; «analog_stale» = false; start = 0; count = 0; «txstat_bytes» = 0; budget = budget; hashes = 0; kept = false; «kept_numbers» = replicate 16 0; «kept_marks» = replicate 16 0 }
 
 -- the number of a refusal, 0 for none
-abbrev pub refusalIn : Verdict → ℕ
-refusalIn done = 0
-refusalIn (refused k) = k
+abbrev pub verdictNumber : Verdict → ℕ
+verdictNumber done = 0
+verdictNumber (refused k) = k
 
 -- 5 for rows or hashes that are too short, over a capacity
 unfoldable pub memoryRefusal : ℕ → ℕ → ℕ → ℕ → ℕ → ℕ → ℕ → ℕ

@@ -15,7 +15,7 @@ use Rattle.rbitcoin_mempool.specs.Scan.{rateSatKvb}
 use Rattle.rbitcoin_mempool.specs.Windows.{Windows, windows, targetAt, orElse, pushAll, emptied}
 use Rattle.rbitcoin_mempool.specs.Windows.{sizeRefusal as windowsSizeRefusal}
 use Rattle.rbitcoin_net.specs.Map.{Entry}
-use Rattle.rbitcoin_net.specs.History.{found, confidenceOf, hurdlesOf, ratesOf, afterRates}
+use Rattle.rbitcoin_net.specs.History.{found, confidenceOf, hurdlesOf, ratesAnswer, afterRates}
 use Rattle.rbitcoin_net.specs.Lent.{Rows, Hashes, Lent, lent, heldRows, view, Sound, stateRefusal, rowsRefusal}
 use Rattle.rbitcoin_net.specs.Readers.{wrote}
 use Rattle.rbitcoin_net.specs.declared.fee_history.HistoricalFeeBlock.{HistoricalFeeBlock}
@@ -31,8 +31,8 @@ pub record Rated : Type 0 where
 abbrev pub rated : FeeHistory → List ℕ → List Float → List ℕ → Rated
 rated s us bs ds = record { state = s; hurdles = us; befores = bs; aheads = ds }
 
-abbrev pub windowsIn : Rated → Windows
-windowsIn x = windows (x .state .analog) (x .hurdles) (x .befores) (x .aheads)
+abbrev pub windowsWith : Rated → Windows
+windowsWith x = windows (x .state .analog) (x .hurdles) (x .befores) (x .aheads)
 
 -- with rows and hashes, all that is lent
 abbrev pub lentTo : Rows → Hashes → Rated → Lent
@@ -43,7 +43,7 @@ unfoldable pub refreshed : Bool → List (Entry HistoricalFeeBlock) → Windows 
 refreshed stale es w = cond stale (pushAll (hurdlesOf es) (emptied w)) w
 
 abbrev pub refreshedIn : Rows → Rated → Windows
-refreshedIn m x = refreshed (x .state .«analog_stale») (heldRows m (x .state)) (windowsIn x)
+refreshedIn m x = refreshed (x .state .«analog_stale») (heldRows m (x .state)) (windowsWith x)
 
 -- the rate of target number d, with z places of scratch
 unfoldable pub rateFrom : Windows → ℕ → ℕ → Option ℕ
@@ -107,6 +107,6 @@ pub record AnswersRates (m : Rows) (x : Rated) (o : Outputs) (v : Verdict) (y : 
   pub numbers : q .numbers ≡ wrote (refusalFor m x o) (numbersOf (answersIn (y .state))) (o .numbers)
   pub marks : q .marks ≡ wrote (refusalFor m x o) (marksOf (answersIn (y .state))) (o .marks)
   pub scratch : ScratchLeft (refusalFor m x o) m x (o .scratch) (q .scratch)
-  pub answers : (z : Hashes) → Sound (x .state) (lentTo m z x) → refusalFor m x o ≡ 0 → answersIn (y .state) ≡ ratesOf (view (x .state) (lentTo m z x))
+  pub answers : (z : Hashes) → Sound (x .state) (lentTo m z x) → refusalFor m x o ≡ 0 → answersIn (y .state) ≡ ratesAnswer (view (x .state) (lentTo m z x))
   pub means : (z : Hashes) → Sound (x .state) (lentTo m z x) → refusalFor m x o ≡ 0 → view (y .state) (lentTo m z y) ≡ afterRates (view (x .state) (lentTo m z x))
   pub sound : (z : Hashes) → Sound (x .state) (lentTo m z x) → Sound (y .state) (lentTo m z y)

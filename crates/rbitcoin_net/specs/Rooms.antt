@@ -14,8 +14,8 @@ use Rattle.rbitcoin_net.specs.declared.fee_history.HistoricalFeeBlock.{H
 use Rattle.rbitcoin_net.specs.declared.fee_history.FeeHistory.{FeeHistory}
 
 -- of q + r elements from place `from` on, the first q moved to `to`, the others to one place behind them, in the order in which none is overwritten, and v put between
-unfoldable pub opened : {A : Type 0} → ℕ → ℕ → ℕ → ℕ → A → List A → List A
-opened from to q r v xs =
+unfoldable pub rowPut : {A : Type 0} → ℕ → ℕ → ℕ → ℕ → A → List A → List A
+rowPut from to q r v xs =
     set (cond (leb to from) (moved (moved xs to from q) (to + q + 1) (from + q) r) (moved (moved xs (to + q + 1) (from + q) r) to from q)) (to + q) v
 
 -- the places that hold no row
@@ -38,8 +38,8 @@ abbrev pub stored : FeeHistory → Rows → Stored
 stored s m = record { state = s; rows = m }
 
 -- in each list a value put in at rank q of the held rows
-abbrev pub openedAt : ℕ → FeeHistory → ℕ → List ℕ → List ℕ
-openedAt q s v xs = opened (s .start) (startWith s q) q (s .count - q) v xs
+abbrev pub rowPutAt : ℕ → FeeHistory → ℕ → List ℕ → List ℕ
+rowPutAt q s v xs = rowPut (s .start) (startWith s q) q (s .count - q) v xs
 
 -- `blocks.insert`, at rank q, and the total
 unfoldable pub holdAt : ℕ → ℕ → HistoricalFeeBlock → Stored → Stored
@@ -47,7 +47,7 @@ holdAt q h b x =
     let s = x .state in
     let m = x .rows in
     stored (withRows (startWith s q) (s .count + 1) (withSums (s .analog) (saturatingAdd (s .«txstat_bytes») (b .«txstat_bytes»)) s))
-    (rows (openedAt q s h (m .heights)) (openedAt q s (markOf (hurdleOf b)) (m .marks)) (openedAt q s (numberOf (hurdleOf b)) (m .rates)) (openedAt q s (b .«txstat_bytes») (m .sizes)))
+    (rows (rowPutAt q s h (m .heights)) (rowPutAt q s (markOf (hurdleOf b)) (m .marks)) (rowPutAt q s (numberOf (hurdleOf b)) (m .rates)) (rowPutAt q s (b .«txstat_bytes») (m .sizes)))
 
 -- there is room for one row more, at rank q, in lists that reach the capacity
 pub record Roomy (q : ℕ) (s : FeeHistory) (h m r z : ℕ) : Type 0 where

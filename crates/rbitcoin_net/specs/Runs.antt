@@ -42,16 +42,16 @@ runIn [] x = x
 runIn (c ∷ cs) x = runIn cs (callIn c x)
 
 -- heights are u32, and a hash that is there has 32 bytes
-abbrev pub Given : Call → Type 0
-Given (connect h b z) = (h < 2 ^ 32) × Whole32 z
-Given (preload h b z) = (h < 2 ^ 32) × Whole32 z
-Given (cut h) = h < 2 ^ 32
-Given (ask z n o) = Unit
-Given other = Unit
+abbrev pub InRange32 : Call → Type 0
+InRange32 (connect h b z) = (h < 2 ^ 32) × Whole32 z
+InRange32 (preload h b z) = (h < 2 ^ 32) × Whole32 z
+InRange32 (cut h) = h < 2 ^ 32
+InRange32 (ask z n o) = Unit
+InRange32 other = Unit
 
-abbrev pub GivenAll : List Call → Type 0
-GivenAll [] = Unit
-GivenAll (c ∷ cs) = Given c × GivenAll cs
+abbrev pub AllInRange32 : List Call → Type 0
+AllInRange32 [] = Unit
+AllInRange32 (c ∷ cs) = InRange32 c × AllInRange32 cs
 
 -- the true sum at the moment before a call's eviction; 0 where nothing is put in
 unfoldable pub moment : Call → Whole → ℕ

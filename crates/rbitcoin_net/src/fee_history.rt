@@ -30,8 +30,8 @@ use open::fresh;
 use open::memory_refusal;
 use open::refusal_in;
 use open::unopened;
-use rates::answered;
 use rates::put_answers;
+use rates::rates_in;
 use rbitcoin_mempool::answer::CountAnswer;
 use rbitcoin_mempool::answer::Outcome;
 use rbitcoin_mempool::answer::Rate;
@@ -337,7 +337,7 @@ impl FeeHistory {
                 state: self,
             };
         }
-        let state = answered(self, marks, rates, hurdles, befores, aheads, scratch);
+        let state = rates_in(self, marks, rates, hurdles, befores, aheads, scratch);
         put_answers(state, out_numbers, out_marks);
         HistoryUpdate {
             outcome: Outcome::Done,

@@ -29,5 +29,5 @@ abbrev pub raisedOf : List ℕ → ℕ → ℕ → ℕ
 raisedOf ws place x = cond (eqb (place % 3) 0) ((getD ws 1 0 + bitAnd x (getD ws 2 0)) % 2 ^ 64) (getD ws 1 0)
 
 -- the hurdle at a place; `left` counts it and those after it, and where that is at most word 3, word 4 is added, modulo 2^64
-abbrev pub hurdleOf : List ℕ → ℕ → ℕ → ℕ → ℕ
-hurdleOf ws place left x = cond (leb left (getD ws 3 0)) ((raisedOf ws place x + getD ws 4 0) % 2 ^ 64) (raisedOf ws place x)
+abbrev pub replayedHurdle : List ℕ → ℕ → ℕ → ℕ → ℕ
+replayedHurdle ws place left x = cond (leb left (getD ws 3 0)) ((raisedOf ws place x + getD ws 4 0) % 2 ^ 64) (raisedOf ws place x)

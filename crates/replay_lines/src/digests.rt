@@ -1,6 +1,6 @@
 // Digests of lists, and the numbers of a generator.
 ghost use mathlib.Core.Path.{_≡_};
-ghost use Rattle.replay_lines.specs.Digest.{mixed, mixedAll, turnedOf, raisedOf, hurdleOf};
+ghost use Rattle.replay_lines.specs.Digest.{mixed, mixedAll, turnedOf, raisedOf, replayedHurdle};
 use crate::word_at;
 
 // `digest.rotate_left(1) ^ word`.
@@ -79,7 +79,7 @@ fn raised(words: &[u64], place: usize, x: u64) -> u64
 
 // The hurdle at a place. `left` counts it and those after it; where that is at most word 3, word 4 is added, modulo 2^64.
 pub fn hurdle(words: &[u64], place: usize, left: u64, x: u64) -> u64
-    ensures { λ r. ⌜ r ≡ hurdleOf (now (words .entry)) place left x ⌝ }
+    ensures { λ r. ⌜ r ≡ replayedHurdle (now (words .entry)) place left x ⌝ }
 {
     if left <= word_at(words, 3) {
         return std::num::wrapping_add_u64(raised(words, place, x), word_at(words, 4));

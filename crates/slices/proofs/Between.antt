@@ -10,7 +10,7 @@ use lib.Dec.{leb, ltb}
 use lib.ListN.{length, getD, take, drop, set, length-set, drop-of-length-le}
 use lib.Seq.{take-suc-set, take-set-le, drop-cons}
 use borrow.Author.Tests.{leb-true, leb-false, le-leb, lt-leb, lt-ltb, le-ltb}
-use Rattle.slices.specs.Sorted.{sorted, tally, atMost, below, between}
+use Rattle.slices.specs.Sorted.{sorted, tally, atMost, below, inRange}
 use Rattle.slices.proofs.Sorting.{atMost-all, kth-at-most, kth-above, kth-least, kth-most, kth-reached}
 use Rattle.slices.proofs.Tallies.{below-suc}
 use Rattle.slices.proofs.Halves.{tally-le}
@@ -28,30 +28,30 @@ one-test x lo hi d f h g e = go (leb d (hi - lo)) (leb lo x) (leb x hi) refl ref
     go false false c p q r = refl
 
 module _ (lo hi x : ℕ) (xs : List ℕ) where
-  in-front : (leb lo x && leb x hi) ≡ true → between lo hi (x ∷ xs) ≡ x ∷ between lo hi xs
-  unfolding between
+  in-front : (leb lo x && leb x hi) ≡ true → inRange lo hi (x ∷ xs) ≡ x ∷ inRange lo hi xs
+  unfolding inRange
   in-front e = rw e
 
-  passed : (leb lo x && leb x hi) ≡ false → between lo hi (x ∷ xs) ≡ between lo hi xs
-  unfolding between
+  passed : (leb lo x && leb x hi) ≡ false → inRange lo hi (x ∷ xs) ≡ inRange lo hi xs
+  unfolding inRange
   passed e = rw e
 
 -- ---- after i elements: those from lo to hi stand in front, and there is room for the others
 pub record Collecting (lo hi : ℕ) (xs start out : List ℕ) (n i : ℕ) : Type 0 where
   pub size : length out ≡ length start
-  pub done : take n out ++ between lo hi (drop i xs) ≡ between lo hi xs
-  pub count : n + length (between lo hi (drop i xs)) ≡ length (between lo hi xs)
+  pub done : take n out ++ inRange lo hi (drop i xs) ≡ inRange lo hi xs
+  pub count : n + length (inRange lo hi (drop i xs)) ≡ length (inRange lo hi xs)
 
 pub collect-start : (lo hi : ℕ) (xs start : List ℕ) → Collecting lo hi xs start start 0 0
 collect-start lo hi xs start = record { size = refl; done = refl; count = omega arith }
 
 module _ (lo hi : ℕ) (xs start out : List ℕ) (n i : ℕ) (h : Collecting lo hi xs start out n i) where
-  module _ (room : length (between lo hi xs) < length start) (r : i < length xs) where
+  module _ (room : length (inRange lo hi xs) < length start) (r : i < length xs) where
     abbrev x : ℕ
     x = getD xs i 0
 
-    from : between lo hi (drop i xs) ≡ between lo hi (x ∷ drop (i + 1) xs)
-    from = rw (add-one i) (ap (between lo hi) (drop-cons xs i 0 r))
+    from : inRange lo hi (drop i xs) ≡ inRange lo hi (x ∷ drop (i + 1) xs)
+    from = rw (add-one i) (ap (inRange lo hi) (drop-cons xs i 0 r))
 
     pub collect-in : (leb lo x && leb x hi) ≡ true → Collecting lo hi xs start (set out n x) (n + 1) (i + 1)
     collect-in e =
@@ -63,7 +63,7 @@ module _ (lo hi : ℕ) (xs start out : List ℕ) (n i : ℕ) (h : Collecting lo 
           count = omega (arith, h .count, ap length step);
         }
       where
-        step : between lo hi (drop i xs) ≡ x ∷ between lo hi (drop (i + 1) xs)
+        step : inRange lo hi (drop i xs) ≡ x ∷ inRange lo hi (drop (i + 1) xs)
         step = from ∙ in-front lo hi x _ e
 
     pub collect-past : (leb lo x && leb x hi) ≡ false → Collecting lo hi xs start (set out n x) n (i + 1)
@@ -74,18 +74,18 @@ module _ (lo hi : ℕ) (xs start out : List ℕ) (n i : ℕ) (h : Collecting lo 
           count = omega (arith, h .count, ap length step);
         }
       where
-        step : between lo hi (drop i xs) ≡ between lo hi (drop (i + 1) xs)
+        step : inRange lo hi (drop i xs) ≡ inRange lo hi (drop (i + 1) xs)
         step = from ∙ passed lo hi x _ e
 
   module _ (l : length xs ≤ i) where
-    none-left : between lo hi (drop i xs) ≡ []
-    unfolding between
-    none-left = ap (between lo hi) (drop-of-length-le xs l)
+    none-left : inRange lo hi (drop i xs) ≡ []
+    unfolding inRange
+    none-left = ap (inRange lo hi) (drop-of-length-le xs l)
 
-    pub collect-count : n ≡ length (between lo hi xs)
+    pub collect-count : n ≡ length (inRange lo hi xs)
     collect-count = omega (arith, h .count, ap length none-left)
 
-    pub collect-end : take n out ≡ between lo hi xs
+    pub collect-end : take n out ≡ inRange lo hi xs
     collect-end = sym (append-nil (take n out)) ∙ sym (ap (λ k. take n out ++ k) none-left) ∙ h .done
 
 -- ---- ranks
@@ -94,42 +94,42 @@ kth-from xs zero k r = zero-le
 kth-from xs (suc w) k r = kth-above xs (below (suc w) xs + k) w r (omega (arith, below-suc w xs))
 
 module _ (lo hi : ℕ) (ordered : lo ≤ hi) where
-  each : (xs : List ℕ) (j : ℕ) → j < length (between lo hi xs) → (lo ≤ getD (between lo hi xs) j 0) × (getD (between lo hi xs) j 0 ≤ hi)
-  unfolding between
+  each : (xs : List ℕ) (j : ℕ) → j < length (inRange lo hi xs) → (lo ≤ getD (inRange lo hi xs) j 0) × (getD (inRange lo hi xs) j 0 ≤ hi)
+  unfolding inRange
   each [] j r = absurd (not-suc-le-zero r)
   each (x ∷ xs) j r = go (leb lo x) (leb x hi) refl refl j (λ i. each xs i) r
     where
-      go : (a b : Bool) → leb lo x ≡ a → leb x hi ≡ b → (j : ℕ) → ((i : ℕ) → i < length (between lo hi xs) → (lo ≤ getD (between lo hi xs) i 0) × (getD (between lo hi xs) i 0 ≤ hi)) → j < length (cond (a && b) (x ∷ between lo hi xs) (between lo hi xs))
-          → (lo ≤ getD (cond (a && b) (x ∷ between lo hi xs) (between lo hi xs)) j 0) × (getD (cond (a && b) (x ∷ between lo hi xs) (between lo hi xs)) j 0 ≤ hi)
+      go : (a b : Bool) → leb lo x ≡ a → leb x hi ≡ b → (j : ℕ) → ((i : ℕ) → i < length (inRange lo hi xs) → (lo ≤ getD (inRange lo hi xs) i 0) × (getD (inRange lo hi xs) i 0 ≤ hi)) → j < length (cond (a && b) (x ∷ inRange lo hi xs) (inRange lo hi xs))
+          → (lo ≤ getD (cond (a && b) (x ∷ inRange lo hi xs) (inRange lo hi xs)) j 0) × (getD (cond (a && b) (x ∷ inRange lo hi xs) (inRange lo hi xs)) j 0 ≤ hi)
       go true true p q zero f r = (leb-true lo x p, leb-true x hi q)
       go true true p q (suc j) f r = f j (le-of-suc-le-suc r)
       go true false p q j f r = f j r
       go false b p q j f r = f j r
 
   -- those at most v of the list are those below lo and those at most v between
-  split : (v : ℕ) → lo ≤ v → v ≤ hi → (xs : List ℕ) → below lo xs + atMost v (between lo hi xs) ≡ atMost v xs
-  unfolding between tally
+  split : (v : ℕ) → lo ≤ v → v ≤ hi → (xs : List ℕ) → below lo xs + atMost v (inRange lo hi xs) ≡ atMost v xs
+  unfolding inRange tally
   split v l m [] = refl
   split v l m (x ∷ xs) = go (leb lo x) (leb x hi) refl refl (split v l m xs)
     where
-      go : (a b : Bool) → leb lo x ≡ a → leb x hi ≡ b → below lo xs + atMost v (between lo hi xs) ≡ atMost v xs
-          → cond (ltb x lo) 1 0 + below lo xs + atMost v (cond (a && b) (x ∷ between lo hi xs) (between lo hi xs)) ≡ cond (leb x v) 1 0 + atMost v xs
+      go : (a b : Bool) → leb lo x ≡ a → leb x hi ≡ b → below lo xs + atMost v (inRange lo hi xs) ≡ atMost v xs
+          → cond (ltb x lo) 1 0 + below lo xs + atMost v (cond (a && b) (x ∷ inRange lo hi xs) (inRange lo hi xs)) ≡ cond (leb x v) 1 0 + atMost v xs
       go true true p q e = rw (le-ltb x lo (leb-true lo x p)) (omega arith)
       go true false p q e = rw (le-ltb x lo (leb-true lo x p), lt-leb x v (omega (arith, leb-false x hi q))) (omega arith)
       go false b p q e = rw (lt-ltb x lo (leb-false lo x p), le-leb x v (omega (arith, leb-false lo x p))) (omega arith)
 
-  pub between-length : (xs : List ℕ) → below lo xs + length (between lo hi xs) ≡ atMost hi xs
-  between-length xs = omega (arith, split hi ordered (omega arith) xs, atMost-all hi (between lo hi xs) (λ j r. each xs j r .1))
+  pub between-length : (xs : List ℕ) → below lo xs + length (inRange lo hi xs) ≡ atMost hi xs
+  between-length xs = omega (arith, split hi ordered (omega arith) xs, atMost-all hi (inRange lo hi xs) (λ j r. each xs j r .1))
 
   -- the element at k between is that many places past those below lo
-  pub kth-between : (xs : List ℕ) (k : ℕ) → k < length (between lo hi xs) → getD (sorted (between lo hi xs)) k 0 ≡ getD (sorted xs) (below lo xs + k) 0
+  pub kth-between : (xs : List ℕ) (k : ℕ) → k < length (inRange lo hi xs) → getD (sorted (inRange lo hi xs)) k 0 ≡ getD (sorted xs) (below lo xs + k) 0
   kth-between xs k r =
       le-antisymm
       (kth-at-most ys k b (omega (arith, kth-reached xs (below lo xs + k) inside, split b low high xs)))
       (kth-at-most xs (below lo xs + k) a (omega (arith, kth-reached ys k r, split a (kth-least ys k lo r (λ j q. each xs j q .0)) (kth-most ys k hi r (λ j q. each xs j q .1)) xs)))
     where
       ys : List ℕ
-      ys = between lo hi xs
+      ys = inRange lo hi xs
 
       a : ℕ
       a = getD (sorted ys) k 0

@@ -6,7 +6,7 @@ use native.Mathlib.Numerals.{add-one}
 use native.Mathlib.Omega.{arith}
 use lib.Dec.{leb}
 use lib.ListN.{length, getD}
-use Rattle.slices.specs.Sorted.{sorted, atMost, below, between, Least, Most}
+use Rattle.slices.specs.Sorted.{sorted, atMost, below, inRange, Least, Most}
 use Rattle.slices.proofs.Sorting.{atMost-none, atMost-all, kth-at-most, kth-above, kth-least, kth-most}
 use Rattle.slices.proofs.Tallies.{none-below, below-suc}
 use Rattle.slices.proofs.Between.{between-length, kth-between}
@@ -65,13 +65,13 @@ module _ (xs : List ℕ) (k lo hi : ℕ) where
         }
 
     -- it is one of those between, counted from the first of them
-    pub chosen : lo ≤ hi → getD (sorted (between lo hi xs)) (k - under) 0 ≡ getD (sorted xs) k 0
+    pub chosen : lo ≤ hi → getD (sorted (inRange lo hi xs)) (k - under) 0 ≡ getD (sorted xs) k 0
     chosen h =
         let e : below lo xs + (k - under) ≡ k = omega (arith, b .before, b .from) in
         kth-between lo hi h xs (k - under) (omega (arith, between-length lo hi h xs, b .before, b .to, b .from, b .past))
         ∙ ap (λ j. getD (sorted xs) j 0) e
 
-    pub left : lo ≤ hi → length (between lo hi xs) ≡ upto - under
+    pub left : lo ≤ hi → length (inRange lo hi xs) ≡ upto - under
     left h = omega (arith, between-length lo hi h xs, b .before, b .to)
 
     pub upto-fits : upto ≤ length xs

@@ -4,7 +4,7 @@ ghost use mathlib.Core.Path.{_≡_};
 ghost use Prim.Native.Nat.{_≤_, _<_, min, max};
 ghost use lib.Dec.{leb};
 ghost use lib.ListN.{length, getD, take, drop};
-ghost use Rattle.slices.specs.Sorted.{sorted, atMost, between, Most};
+ghost use Rattle.slices.specs.Sorted.{sorted, atMost, inRange, Most};
 ghost use Rattle.slices.specs.Least.{leastOf};
 use super::moves::copy_front;
 use super::sort::select_nth;
@@ -97,9 +97,9 @@ fn is_between(x: u64, lo: u64, hi: u64) -> bool
 // stored over one that does not lie there, so that no branch depends on the elements.
 fn collect_between(xs: &[u64], lo: u64, hi: u64, out: &mut [u64]) -> usize
     requires { ⌜ lo ≤ hi ⌝ }
-    requires { ⌜ length (between lo hi (now xs)) < length (now out) ⌝ }
-    ensures { λ r. ⌜ r ≡ length (between lo hi (now (xs .entry))) ⌝ }
-    ensures { λ r. ⌜ take r (now (out .exit)) ≡ between lo hi (now (xs .entry)) ⌝ }
+    requires { ⌜ length (inRange lo hi (now xs)) < length (now out) ⌝ }
+    ensures { λ r. ⌜ r ≡ length (inRange lo hi (now (xs .entry))) ⌝ }
+    ensures { λ r. ⌜ take r (now (out .exit)) ≡ inRange lo hi (now (xs .entry)) ⌝ }
 {
     let mut n: usize = 0;
     let mut i = 0;
@@ -117,8 +117,8 @@ fn collect_between(xs: &[u64], lo: u64, hi: u64, out: &mut [u64]) -> usize
 // The element at k of the sorted list of the elements from lo to hi, selected in a list of its own.
 fn select_between(xs: &[u64], lo: u64, hi: u64, k: usize) -> u64
     requires { ⌜ lo ≤ hi ⌝ }
-    requires { ⌜ length (between lo hi (now xs)) ≤ 2048 ⌝ }
-    ensures { λ r. ⌜ r ≡ getD (sorted (between lo hi (now (xs .entry)))) k 0 ⌝ }
+    requires { ⌜ length (inRange lo hi (now xs)) ≤ 2048 ⌝ }
+    ensures { λ r. ⌜ r ≡ getD (sorted (inRange lo hi (now (xs .entry)))) k 0 ⌝ }
 {
     let mut own = [0u64; 2049];
     let n = collect_between(xs, lo, hi, &mut own);

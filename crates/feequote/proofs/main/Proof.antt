@@ -7,16 +7,16 @@ use Rattle.quote_board.proofs.Writing.{wrote-counts}
 use Rattle.io.specs.Counts.{Counts}
 use Rattle.feequote.specs.declared.Answer.{Answer}
 use Rattle.feequote.specs.declared.Answer.the-variants.{Written}
-use Rattle.feequote.specs.Reads.{Answered, Quoted}
+use Rattle.feequote.specs.Reads.{Answered, TextWritten}
 use Rattle.feequote.proofs.Feeds.{quoted-text}
 use borrow.Author.Needs.{needs}
 use Rattle.feequote.proofs.main.Statement.{statement}
 use Rattle.feequote.proofs.main.Tie as tie
 
-written : {d d' : List ℕ} {n : ℕ} {a : Answer} → a ≡ Written n → Answered d a d' → Quoted d n d'
+written : {d d' : List ℕ} {n : ℕ} {a : Answer} → a ≡ Written n → Answered d a d' → TextWritten d n d'
 written {d} {d'} e h = subst (λ (x : Answer). Answered d x d') e h
 
-within : {d d' : List ℕ} {n : ℕ} → Quoted d n d' → Counts n d'
+within : {d d' : List ℕ} {n : ℕ} → TextWritten d n d' → Counts n d'
 within {d} {d'} {n} q = wrote-counts d (feequote (q .input)) d' n (q .wrote)
 
 buffer-requires : tie.Need-buffer-requires

@@ -1,7 +1,7 @@
 -- `quote` meets its contract. Assumes nothing.
 use mathlib.Core.Path.{subst}
 use denote.Ref.{now}
-use Rattle.quote_lines.specs.Store.{kept, stateOf, opened, zeros}
+use Rattle.quote_lines.specs.Store.{kept, stateOf, newReader, zeros}
 use Rattle.feequote.specs.declared.Whole.{Whole}
 use Rattle.feequote.specs.Reads.{Through}
 use Rattle.feequote.proofs.Feeds.{quoted}
@@ -32,7 +32,7 @@ returns-2 c =
     let a = c .before .before .before .before .before .before .before .before .before .before .before .before .before .before .before .args in
     let q = c .before .before .before .before .before .before .before .before .before .before .read-all in
     let l = q .last in
-    let f = subst (λ (x : Whole). Through (stateOf opened zeros zeros zeros zeros) x (l .0) (l .1 .0) (l .1 .1 .0) (l .1 .1 .1 .0)) (c .before .before .before .before .before .before .before .before .whole .given .1) (q .ensures) in
+    let f = subst (λ (x : Whole). Through (stateOf newReader zeros zeros zeros zeros) x (l .0) (l .1 .0) (l .1 .1 .0) (l .1 .1 .1 .0)) (c .before .before .before .before .before .before .before .before .whole .given .1) (q .ensures) in
     let e = c .before .before .finish in
     let m = e .last in
     quoted (now (a .out)) (c .write .last .1 .0) (c .write .result) (kept (e .result) (m .1 .0) (m .1 .1 .0) (m .1 .1 .1 .0) (m .1 .1 .1 .1 .0)) f (e .ensures) (c .write .ensures .0)

@@ -2,7 +2,7 @@
 use Prim.Native.Nat.{ℕ}
 use mathlib.Core.Path.{_≡_, sym, subst}
 use mathlib.Core.List.{List}
-use Rattle.quote_lines.specs.Store.{State, stateOf, opened}
+use Rattle.quote_lines.specs.Store.{State, stateOf, newReader}
 use Rattle.quote_lines.specs.declared.board.Reader.{Reader}
 use Rattle.feequote.specs.declared.Part.{Part}
 use Rattle.feequote.specs.Reads.{Fed, readerAfter}
@@ -17,7 +17,7 @@ turn {s} r ds rs ms ts e f g = subst (λ (x : Part). Fed s (stateOf (readerAfter
 
 abbrev Inv-loop : tie.InvT-loop
 Inv-loop depths₀ rates₀ marks₀ targets₀ r₀ turns₀ depths rates marks targets r turns =
-    Fed (stateOf opened depths₀ rates₀ marks₀ targets₀) (stateOf r depths rates marks targets)
+    Fed (stateOf newReader depths₀ rates₀ marks₀ targets₀) (stateOf r depths rates marks targets)
 
 abbrev μ-loop : tie.MeasureT-loop
 μ-loop depths₀ rates₀ marks₀ targets₀ r₀ turns₀ depths rates marks targets r turns = turns
@@ -29,7 +29,7 @@ loop-holds : tie.Need-loop-holds Inv-loop μ-loop
 loop-holds c =
     let a = c .before .args in
     let d = a .depths .now in
-    let s = stateOf opened d (a .rates .now) (a .marks .now) (a .targets .now) in
+    let s = stateOf newReader d (a .rates .now) (a .marks .now) (a .targets .now) in
     subst (λ (r : Reader). Fed s (stateOf r d (a .rates .now) (a .marks .now) (a .targets .now))) (sym (c .new .ensures)) (fed-still s)
 
 read-some-requires : tie.Need-read-some-requires Inv-loop μ-loop

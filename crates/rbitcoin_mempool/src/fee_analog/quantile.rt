@@ -2,7 +2,7 @@
 ghost use mathlib.Core.Path.{_≡_};
 ghost use lib.ListN.{getD};
 ghost use Rattle.rbitcoin_mempool.specs.Answer.{answer};
-ghost use Rattle.rbitcoin_mempool.specs.Quantile.{historicalConfidenceFar, rankOf, lowerPlace, upperPlace, blendOf, between, quantileOf, inUnit, logQuantile, logQuantileLeaves};
+ghost use Rattle.rbitcoin_mempool.specs.Quantile.{historicalConfidenceFar, rankOf, lowerPlace, upperPlace, blendOf, betweenNeighbors, quantileOf, inUnit, logQuantile, logQuantileLeaves};
 use super::HISTORICAL_CONFIDENCE_FAR;
 use crate::answer::RateAnswer;
 
@@ -41,7 +41,7 @@ fn blend(a: u64, b: u64, frac: f64) -> u64
 
 // Between two neighbours; a rank that lands on one hurdle, including a repeated one, stays there.
 fn between(a: u64, b: u64, rank: f64) -> u64
-    ensures { λ r. ⌜ r ≡ between a b rank ⌝ }
+    ensures { λ r. ⌜ r ≡ betweenNeighbors a b rank ⌝ }
 {
     if a == b {
         return a;

@@ -2,8 +2,8 @@
 ghost use mathlib.Core.Path.{_≡_};
 ghost use mathlib.Core.Bool.{cond};
 ghost use Rattle.rbitcoin_mempool.specs.Rates.{given};
-ghost use Rattle.rbitcoin_mempool.specs.Depths.{blendWeight, flowForDepth, mix, mixed, or, greater, blendSatKvb, clampedShare, blendBy, warmupBlend, coldRate, warmRate, depthRateSatKvb, floored, publishedDepthRate};
-ghost use Rattle.rbitcoin_mempool.specs.Exact.{InUnit, wholes, Within, Both, BoundedRate, exactBlend, exactBy, exactPublished};
+ghost use Rattle.rbitcoin_mempool.specs.Depths.{blendWeight, flowForDepth, blended, warmed, or, greater, blendSatKvb, clampedShare, blendBy, warmupBlend, coldRate, warmRate, depthRateSatKvb, floored, publishedDepthRate};
+ghost use Rattle.rbitcoin_mempool.specs.Exact.{InUnit, asFracs, Within, Both, BoundedRate, exactBlend, exactBy, exactPublished};
 use crate::answer::Rate;
 
 // Blend length in blocks.
@@ -43,14 +43,14 @@ pub fn flow_for_depth(projected: Rate, frontier: Rate, n_blocks: u32) -> Rate
 
 // v·a + (1-v)·b, rounded.
 fn blended(v: f64, a: u64, b: u64) -> u64
-    ensures { λ r. ⌜ r ≡ mix v a b ⌝ }
+    ensures { λ r. ⌜ r ≡ blended v a b ⌝ }
 {
     num::float::round_to_u64(v * num::float::from_u64(a) + (1.0 - v) * num::float::from_u64(b))
 }
 
 // (1-v)·b + v·a, rounded.
 fn warmed(v: f64, b: u64, a: u64) -> u64
-    ensures { λ r. ⌜ r ≡ mixed v b a ⌝ }
+    ensures { λ r. ⌜ r ≡ warmed v b a ⌝ }
 {
     num::float::round_to_u64((1.0 - v) * num::float::from_u64(b) + v * num::float::from_u64(a))
 }
@@ -111,7 +111,7 @@ fn clamped_share(alpha: f64) -> f64
 // at α = 1. Less than 1 from the exact blend of rates up to 2^50.
 pub fn warmup_blend(alpha: f64, cold: Rate, warm: Rate) -> Rate
     ensures { λ r. ⌜ given r ≡ warmupBlend alpha (given cold) (given warm) ⌝ }
-    ensures { λ r. ⌜ (BoundedRate (given cold) → BoundedRate (given warm) → Both (Within 1) (given r) (exactBy (clampedShare alpha) (given cold) (wholes (given warm)))) ⌝ }
+    ensures { λ r. ⌜ (BoundedRate (given cold) → BoundedRate (given warm) → Both (Within 1) (given r) (exactBy (clampedShare alpha) (given cold) (asFracs (given warm)))) ⌝ }
 {
     blend_by(clamped_share(alpha), cold, warm)
 }

@@ -5,8 +5,8 @@ ghost use Prim.Native.Nat.{_+_, _≤_, _<_};
 ghost use lib.ListN.{length};
 ghost use Rattle.rbitcoin_mempool.specs.Windows.{popFrontOf};
 ghost use Rattle.rbitcoin_net.specs.Cuts.{forgetBlock};
-ghost use Rattle.rbitcoin_net.specs.Evictions.{held, evictBlock, evictIn};
-ghost use Rattle.rbitcoin_net.specs.Hashes.{kept, Room};
+ghost use Rattle.rbitcoin_net.specs.Evictions.{hashed, evictBlock, evictIn};
+ghost use Rattle.rbitcoin_net.specs.Hashes.{hashList, Room};
 ghost use Rattle.rbitcoin_net.specs.Lent.{rows, hashes};
 use super::FeeHistory;
 use super::HistoricalFeeBlock;
@@ -44,8 +44,8 @@ fn evict_one(
     hash_heights: &mut [u32],
     hash_bytes: &mut [u8],
 ) -> FeeHistory
-    requires { ⌜ (0 < s .count) × (s .start < 65536) × Room (kept (s .hashes) (hashes (now «hash_heights») (now «hash_bytes»))) ⌝ }
-    ensures { λ r. ⌜ held r (hashes (now («hash_heights» .exit)) (now («hash_bytes» .exit))) ≡ evictBlock height old (held s (hashes (now («hash_heights» .entry)) (now («hash_bytes» .entry)))) ⌝ }
+    requires { ⌜ (0 < s .count) × (s .start < 65536) × Room (hashList (s .hashes) (hashes (now «hash_heights») (now «hash_bytes»))) ⌝ }
+    ensures { λ r. ⌜ hashed r (hashes (now («hash_heights» .exit)) (now («hash_bytes» .exit))) ≡ evictBlock height old (hashed s (hashes (now («hash_heights» .entry)) (now («hash_bytes» .entry)))) ⌝ }
 {
     let left = remove_hash(s.hashes, height, hash_heights, hash_bytes);
     let mut t = forget_front(s, old);
@@ -65,8 +65,8 @@ pub(crate) fn evict(
     hash_heights: &mut [u32],
     hash_bytes: &mut [u8],
 ) -> FeeHistory
-    requires { ⌜ (s .start + s .count ≤ 65536) × (s .start + s .count ≤ length (now heights)) × (s .start + s .count ≤ length (now marks)) × (s .start + s .count ≤ length (now rates)) × (s .start + s .count ≤ length (now sizes)) × Room (kept (s .hashes) (hashes (now «hash_heights») (now «hash_bytes»))) ⌝ }
-    ensures { λ r. ⌜ held r (hashes (now («hash_heights» .exit)) (now («hash_bytes» .exit))) ≡ evictIn (rows (now (heights .entry)) (now (marks .entry)) [] (now (sizes .entry))) (held s (hashes (now («hash_heights» .entry)) (now («hash_bytes» .entry)))) ⌝ }
+    requires { ⌜ (s .start + s .count ≤ 65536) × (s .start + s .count ≤ length (now heights)) × (s .start + s .count ≤ length (now marks)) × (s .start + s .count ≤ length (now rates)) × (s .start + s .count ≤ length (now sizes)) × Room (hashList (s .hashes) (hashes (now «hash_heights») (now «hash_bytes»))) ⌝ }
+    ensures { λ r. ⌜ hashed r (hashes (now («hash_heights» .exit)) (now («hash_bytes» .exit))) ≡ evictIn (rows (now (heights .entry)) (now (marks .entry)) [] (now (sizes .entry))) (hashed s (hashes (now («hash_heights» .entry)) (now («hash_bytes» .entry)))) ⌝ }
 {
     let mut t = s;
     t.kept = false;

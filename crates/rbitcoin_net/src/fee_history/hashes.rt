@@ -3,7 +3,7 @@ ghost use mathlib.Core.Path.{_≡_};
 ghost use Prim.Native.Nat.{_+_, _-_, _*_, _≤_, _<_};
 ghost use lib.ListN.{length};
 ghost use Rattle.rbitcoin_net.specs.Lent.{hashes};
-ghost use Rattle.rbitcoin_net.specs.Hashes.{kept, hashOf, Room, movedHashes, putHash, removeHash, noteAt, noteHashIn};
+ghost use Rattle.rbitcoin_net.specs.Hashes.{hashList, hashOf, Room, movedHashes, putHash, removeHash, noteAt, noteHashIn};
 use super::BlockHash;
 use super::RECENT_HASHES;
 use super::search::is_at;
@@ -33,8 +33,8 @@ fn put_hash(heights: &mut [u32], bytes: &mut [u8], q: usize, height: u32, hash: 
 
 // The hash of a height dropped, if it is kept; the number that is left.
 pub(crate) fn remove_hash(count: usize, height: u32, heights: &mut [u32], bytes: &mut [u8]) -> usize
-    requires { ⌜ Room (kept count (hashes (now heights) (now bytes))) ⌝ }
-    ensures { λ r. ⌜ kept r (hashes (now (heights .exit)) (now (bytes .exit))) ≡ removeHash height (kept count (hashes (now (heights .entry)) (now (bytes .entry)))) ⌝ }
+    requires { ⌜ Room (hashList count (hashes (now heights) (now bytes))) ⌝ }
+    ensures { λ r. ⌜ hashList r (hashes (now (heights .exit)) (now (bytes .exit))) ≡ removeHash height (hashList count (hashes (now (heights .entry)) (now (bytes .entry)))) ⌝ }
 {
     let q = lower_bound(heights, 0, count, height);
     if !is_at(heights, count, q, height) {
@@ -54,8 +54,8 @@ fn note_at(
     heights: &mut [u32],
     bytes: &mut [u8],
 ) -> usize
-    requires { ⌜ Room (kept count (hashes (now heights) (now bytes))) × (q ≤ count) ⌝ }
-    ensures { λ r. ⌜ kept r (hashes (now (heights .exit)) (now (bytes .exit))) ≡ noteAt q height hash (kept count (hashes (now (heights .entry)) (now (bytes .entry)))) ⌝ }
+    requires { ⌜ Room (hashList count (hashes (now heights) (now bytes))) × (q ≤ count) ⌝ }
+    ensures { λ r. ⌜ hashList r (hashes (now (heights .exit)) (now (bytes .exit))) ≡ noteAt q height hash (hashList count (hashes (now (heights .entry)) (now (bytes .entry)))) ⌝ }
 {
     if is_at(heights, count, q, height) {
         put_hash(heights, bytes, q, height, hash);
@@ -82,8 +82,8 @@ pub(crate) fn note_hash(
     heights: &mut [u32],
     bytes: &mut [u8],
 ) -> usize
-    requires { ⌜ Room (kept count (hashes (now heights) (now bytes))) ⌝ }
-    ensures { λ r. ⌜ kept r (hashes (now (heights .exit)) (now (bytes .exit))) ≡ noteHashIn height (hashOf hash) (kept count (hashes (now (heights .entry)) (now (bytes .entry)))) ⌝ }
+    requires { ⌜ Room (hashList count (hashes (now heights) (now bytes))) ⌝ }
+    ensures { λ r. ⌜ hashList r (hashes (now (heights .exit)) (now (bytes .exit))) ≡ noteHashIn height (hashOf hash) (hashList count (hashes (now (heights .entry)) (now (bytes .entry)))) ⌝ }
 {
     if !hash.there {
         return count;

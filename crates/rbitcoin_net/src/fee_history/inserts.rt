@@ -6,7 +6,7 @@ ghost use lib.ListN.{length};
 ghost use Rattle.rbitcoin_mempool.specs.Outcome.{verdict};
 ghost use Rattle.rbitcoin_mempool.specs.Rates.{given};
 ghost use Rattle.rbitcoin_mempool.specs.Windows.{windows, pushBackOf, pushFrontOf};
-ghost use Rattle.rbitcoin_net.specs.Hashes.{kept, hashOf, Room};
+ghost use Rattle.rbitcoin_net.specs.Hashes.{hashList, hashOf, Room};
 ghost use Rattle.rbitcoin_net.specs.Inserts.{sizesRefusal, Placed, Inserts, InsertsIfAbsent, filed, whole, pushRate, storeIn, insertIn, preloadWindows, preloadStale, insertIfAbsentIn};
 ghost use Rattle.rbitcoin_net.specs.Lent.{rows, hashes, lent};
 ghost use Rattle.rbitcoin_net.specs.Rooms.{Roomy};
@@ -123,7 +123,7 @@ fn store(
     hash_heights: &mut [u32],
     hash_bytes: &mut [u8],
 ) -> FeeHistory
-    requires { ⌜ Roomy q s (length (now heights)) (length (now marks)) (length (now rates)) (length (now sizes)) × Room (kept (s .hashes) (hashes (now «hash_heights») (now «hash_bytes»))) ⌝ }
+    requires { ⌜ Roomy q s (length (now heights)) (length (now marks)) (length (now rates)) (length (now sizes)) × Room (hashList (s .hashes) (hashes (now «hash_heights») (now «hash_bytes»))) ⌝ }
     ensures { λ r. ⌜ filed r (rows (now (heights .exit)) (now (marks .exit)) (now (rates .exit)) (now (sizes .exit))) (hashes (now («hash_heights» .exit)) (now («hash_bytes» .exit))) ≡ storeIn q height block (hashOf hash) (filed s (rows (now (heights .entry)) (now (marks .entry)) (now (rates .entry)) (now (sizes .entry))) (hashes (now («hash_heights» .entry)) (now («hash_bytes» .entry)))) ⌝ }
 {
     let t = hold_at(s, q, height, block, heights, marks, rates, sizes);

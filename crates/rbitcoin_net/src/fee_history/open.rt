@@ -2,7 +2,7 @@
 ghost use mathlib.Core.Path.{_≡_};
 ghost use Rattle.rbitcoin_mempool.specs.Outcome.{verdict};
 ghost use Rattle.rbitcoin_mempool.specs.Windows.{unopened as unopenedWindows};
-ghost use Rattle.rbitcoin_net.specs.Openings.{freshOf, refusalIn, memoryRefusal};
+ghost use Rattle.rbitcoin_net.specs.Openings.{freshOf, verdictNumber, memoryRefusal};
 use super::FeeHistory;
 use super::refusals::hashes_size_refusal;
 use super::refusals::rows_size_refusal;
@@ -41,7 +41,7 @@ pub(crate) fn unopened() -> AnalogHistory
 }
 
 pub(crate) fn refusal_in(o: Outcome) -> u8
-    ensures { λ r. ⌜ r ≡ refusalIn (verdict o) ⌝ }
+    ensures { λ r. ⌜ r ≡ verdictNumber (verdict o) ⌝ }
 {
     match o {
         Outcome::Done => 0,

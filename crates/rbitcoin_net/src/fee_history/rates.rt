@@ -141,7 +141,7 @@ fn refresh(
 }
 
 // The kept rates, or where there are none the rates of windows that are not stale, kept then.
-pub(crate) fn answered(
+pub(crate) fn rates_in(
     s: FeeHistory,
     marks: &[u8],
     rates: &[u64],

@@ -4,7 +4,7 @@ ghost use Prim.Native.Nat.{_+_, _≤_, _<_};
 ghost use lib.ListN.{length};
 ghost use Rattle.rbitcoin_mempool.specs.Rates.{given, markOf, numberOf};
 ghost use Rattle.rbitcoin_net.specs.Lent.{rows};
-ghost use Rattle.rbitcoin_net.specs.Rooms.{opened, startWith, stored, holdAt, Roomy};
+ghost use Rattle.rbitcoin_net.specs.Rooms.{rowPut, startWith, stored, holdAt, Roomy};
 use super::FeeHistory;
 use super::HistoricalFeeBlock;
 use num::word::saturating_add;
@@ -35,7 +35,7 @@ fn start_with(s: FeeHistory, q: usize) -> usize
 // q elements from `from` on go to `to`, the r elements behind them to one place further, and v between.
 fn open_u32(xs: &mut [u32], from: usize, to: usize, q: usize, r: usize, v: u32)
     requires { ⌜ (from + q + r ≤ length (now xs)) × (to + q + 1 + r ≤ length (now xs)) ⌝ }
-    ensures { λ _. ⌜ now (xs .exit) ≡ opened from to q r v (now (xs .entry)) ⌝ }
+    ensures { λ _. ⌜ now (xs .exit) ≡ rowPut from to q r v (now (xs .entry)) ⌝ }
 {
     if to <= from {
         copy_within_u32(xs, to, from, q);
@@ -50,7 +50,7 @@ fn open_u32(xs: &mut [u32], from: usize, to: usize, q: usize, r: usize, v: u32)
 
 fn open_u8(xs: &mut [u8], from: usize, to: usize, q: usize, r: usize, v: u8)
     requires { ⌜ (from + q + r ≤ length (now xs)) × (to + q + 1 + r ≤ length (now xs)) ⌝ }
-    ensures { λ _. ⌜ now (xs .exit) ≡ opened from to q r v (now (xs .entry)) ⌝ }
+    ensures { λ _. ⌜ now (xs .exit) ≡ rowPut from to q r v (now (xs .entry)) ⌝ }
 {
     if to <= from {
         copy_within_u8(xs, to, from, q);
@@ -65,7 +65,7 @@ fn open_u8(xs: &mut [u8], from: usize, to: usize, q: usize, r: usize, v: u8)
 
 fn open_u64(xs: &mut [u64], from: usize, to: usize, q: usize, r: usize, v: u64)
     requires { ⌜ (from + q + r ≤ length (now xs)) × (to + q + 1 + r ≤ length (now xs)) ⌝ }
-    ensures { λ _. ⌜ now (xs .exit) ≡ opened from to q r v (now (xs .entry)) ⌝ }
+    ensures { λ _. ⌜ now (xs .exit) ≡ rowPut from to q r v (now (xs .entry)) ⌝ }
 {
     if to <= from {
         copy_within_u64(xs, to, from, q);

@@ -2,14 +2,15 @@
 use borrow.Author.Needs.{needs}
 use mathlib.Core.Path.{ap, _∙_}
 use Rattle.rbitcoin_mempool.specs.Rates.{numberOf}
+use Rattle.exports.proofs.Verdicts.{number-same}
 use Rattle.exports.proofs.depths.juleyomu_hold_defined_then_monotone.Statement.{statement}
 use Rattle.exports.proofs.depths.juleyomu_hold_defined_then_monotone.Tie as tie
 
 hold-defined-then-monotone-requires : tie.Need-hold-defined-then-monotone-requires
 hold-defined-then-monotone-requires c κs = search needs
 
-number-of-requires : tie.Need-number-of-requires
-number-of-requires c κs = search needs
+refusal-number-requires : tie.Need-refusal-number-requires
+refusal-number-requires c κs = search needs
 
 same-length : tie.Need-same-length
 same-length c = search needs
@@ -20,14 +21,14 @@ same-length-2 c = search needs
 returns : tie.Need-returns
 returns c =
     let n = c .before .before .before .before .before .hold-defined-then-monotone .ensures in
-    (c .number-of .ensures ∙ ap numberOf (n .0), n .1)
+    (c .refusal-number .ensures ∙ number-same (c .before .before .before .before .before .hold-defined-then-monotone .result) ∙ ap numberOf (n .0), n .1)
 
 pub juleyomu-hold-defined-then-monotone-spec : {M : Type 1} → statement M
 juleyomu-hold-defined-then-monotone-spec =
     tie.close
     (tie.spec
     hold-defined-then-monotone-requires
-    number-of-requires
+    refusal-number-requires
     same-length
     same-length-2
     returns)

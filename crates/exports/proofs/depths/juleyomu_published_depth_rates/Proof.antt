@@ -2,6 +2,7 @@
 use borrow.Author.Needs.{needs}
 use mathlib.Core.Path.{ap, _∙_}
 use Rattle.rbitcoin_mempool.specs.Rates.{numberOf}
+use Rattle.exports.proofs.Verdicts.{number-same}
 use Rattle.exports.proofs.depths.juleyomu_published_depth_rates.Statement.{statement}
 use Rattle.exports.proofs.depths.juleyomu_published_depth_rates.Tie as tie
 
@@ -11,8 +12,8 @@ rate-of-requires c κs = search needs
 published-depth-rates-requires : tie.Need-published-depth-rates-requires
 published-depth-rates-requires c κs = search needs
 
-number-of-requires : tie.Need-number-of-requires
-number-of-requires c κs = search needs
+refusal-number-requires : tie.Need-refusal-number-requires
+refusal-number-requires c κs = search needs
 
 same-length : tie.Need-same-length
 same-length c = search needs
@@ -23,7 +24,7 @@ same-length-2 c = search needs
 returns : tie.Need-returns
 returns c =
     let n = rw (c .before .before .before .before .before .before .before .before .rate-of .ensures) at (c .before .before .before .before .before .published-depth-rates .ensures) in
-    (c .number-of .ensures ∙ ap numberOf (n .0), n .1)
+    (c .refusal-number .ensures ∙ number-same (c .before .before .before .before .before .published-depth-rates .result) ∙ ap numberOf (n .0), n .1)
 
 pub juleyomu-published-depth-rates-spec : {M : Type 1} → statement M
 juleyomu-published-depth-rates-spec =
@@ -31,7 +32,7 @@ juleyomu-published-depth-rates-spec =
     (tie.spec
     rate-of-requires
     published-depth-rates-requires
-    number-of-requires
+    refusal-number-requires
     same-length
     same-length-2
     returns)

@@ -3,12 +3,12 @@ use borrow.Author.Needs.{needs}
 use mathlib.Core.Path.{sym, ap, _∙_}
 use lib.Ieee.{binary64, sub}
 use borrow.Author.Tests.{eq-eqb, ne-eqb}
-use Rattle.rbitcoin_mempool.specs.Quantile.{blendOf, between}
+use Rattle.rbitcoin_mempool.specs.Quantile.{blendOf, betweenNeighbors}
 use Rattle.rbitcoin_mempool.proofs.fee_analog.quantile.between.Statement.{statement}
 use Rattle.rbitcoin_mempool.proofs.fee_analog.quantile.between.Tie as tie
 
 returns : tie.Need-returns
-unfolding between
+unfolding betweenNeighbors
 returns c = sym (rw (eq-eqb (c .before .args .a) (c .before .args .b) (c .if1 .taken)))
 
 floor-requires : tie.Need-floor-requires
@@ -18,7 +18,7 @@ blend-requires : tie.Need-blend-requires
 blend-requires c κs = search needs
 
 returns-2 : tie.Need-returns-2
-unfolding between
+unfolding betweenNeighbors
 returns-2 c =
     let a = c .before .before .before .args in
     c .blend .ensures

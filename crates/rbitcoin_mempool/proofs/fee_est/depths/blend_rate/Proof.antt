@@ -4,7 +4,7 @@ use mathlib.Core.Option.{some}
 use Rattle.rbitcoin_mempool.specs.declared.answer.Rate.{Rate}
 use Rattle.rbitcoin_mempool.specs.Rates.{given}
 use lib.Ieee.{Float}
-use Rattle.rbitcoin_mempool.specs.Depths.{mix, blendSatKvb}
+use Rattle.rbitcoin_mempool.specs.Depths.{blended, blendSatKvb}
 use borrow.Author.Needs.{needs}
 use Rattle.rbitcoin_mempool.proofs.fee_est.depths.blend_rate.Statement.{statement}
 use Rattle.rbitcoin_mempool.proofs.fee_est.depths.blend_rate.Tie as tie
@@ -29,7 +29,7 @@ enum-told-2 c = search needs
 
 returns : tie.Need-returns
 unfolding blendSatKvb
-returns c = let k = c .before .before .before .before .before .before in let a = k .before .before .args in let f = k .flow .given .0 .0 in let h = c .before .before .before .hist .given .0 .0 in ap some (c .blended .ensures ∙ ap (λ (w : Float). mix w f h) (c .before .blend-weight .ensures .0)) ∙ sym (ap (λ (x : Rate). blendSatKvb (given x) (given (a .hist)) (a .n-blocks)) (k .flow .given .1) ∙ ap (λ (y : Rate). blendSatKvb (some f) (given y) (a .n-blocks)) (c .before .before .before .hist .given .1))
+returns c = let k = c .before .before .before .before .before .before in let a = k .before .before .args in let f = k .flow .given .0 .0 in let h = c .before .before .before .hist .given .0 .0 in ap some (c .blended .ensures ∙ ap (λ (w : Float). blended w f h) (c .before .blend-weight .ensures .0)) ∙ sym (ap (λ (x : Rate). blendSatKvb (given x) (given (a .hist)) (a .n-blocks)) (k .flow .given .1) ∙ ap (λ (y : Rate). blendSatKvb (some f) (given y) (a .n-blocks)) (c .before .before .before .hist .given .1))
 
 returns-2 : tie.Need-returns-2
 unfolding blendSatKvb

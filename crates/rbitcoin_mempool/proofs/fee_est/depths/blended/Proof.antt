@@ -3,7 +3,7 @@ use mathlib.Core.Path.{ap, _∙_}
 use lib.Ieee.{Float, binary64, add, sub, mul, ofBits}
 use Rattle.num.specs.Float.{ofU64}
 use Rattle.num.specs.Round.{roundToU64}
-use Rattle.rbitcoin_mempool.specs.Depths.{mix, one64}
+use Rattle.rbitcoin_mempool.specs.Depths.{blended, one64}
 use borrow.Author.Needs.{needs}
 use Rattle.rbitcoin_mempool.proofs.fee_est.depths.blended.Statement.{statement}
 use Rattle.rbitcoin_mempool.proofs.fee_est.depths.blended.Tie as tie
@@ -18,7 +18,7 @@ round-to-u64-requires : tie.Need-round-to-u64-requires
 round-to-u64-requires c κs = search needs
 
 returns : tie.Need-returns
-unfolding mix ofBits
+unfolding blended ofBits
 returns c = let a = c .before .before .before .args in c .round-to-u64 .ensures ∙ ap (λ (x : Float). roundToU64 (add binary64 (mul binary64 (a .v) x) (mul binary64 (sub binary64 one64 (a .v)) (c .before .from-u642 .result)))) (c .before .before .from-u64 .ensures) ∙ ap (λ (x : Float). roundToU64 (add binary64 (mul binary64 (a .v) (ofU64 (a .a))) (mul binary64 (sub binary64 one64 (a .v)) x))) (c .before .from-u642 .ensures)
 
 pub blended-spec : {M : Type 1} → statement M

@@ -5,7 +5,7 @@ use Prim.Native.Nat.{ℕ}
 use lib.Ieee.{Float}
 use Rattle.rbitcoin_mempool.specs.Rates.{given}
 use Rattle.rbitcoin_mempool.specs.Depths.{clampedShare, blendBy, warmupBlend}
-use Rattle.rbitcoin_mempool.specs.Exact.{wholes, Within, Both, exactBy}
+use Rattle.rbitcoin_mempool.specs.Exact.{asFracs, Within, Both, exactBy}
 use Rattle.rbitcoin_mempool.proofs.Published.{warmup-beside}
 use borrow.Author.Needs.{needs}
 use Rattle.rbitcoin_mempool.proofs.fee_est.depths.warmup_blend.Statement.{statement}
@@ -22,7 +22,7 @@ unfolding warmupBlend
 returns c =
     let a = c .before .before .args in
     let e = c .blend-by .ensures ∙ ap (λ (s : Float). blendBy s (given (a .cold)) (given (a .warm))) (c .before .clamped-share .ensures) in
-    (e, λ C W. subst (λ (o : Option ℕ). Both (Within 1) o (exactBy (clampedShare (a .alpha)) (given (a .cold)) (wholes (given (a .warm))))) (sym e) (warmup-beside (a .alpha) (given (a .cold)) (given (a .warm)) C W))
+    (e, λ C W. subst (λ (o : Option ℕ). Both (Within 1) o (exactBy (clampedShare (a .alpha)) (given (a .cold)) (asFracs (given (a .warm))))) (sym e) (warmup-beside (a .alpha) (given (a .cold)) (given (a .warm)) C W))
 
 pub warmup-blend-spec : {M : Type 1} → statement M
 warmup-blend-spec = tie.close (tie.spec clamped-share-requires blend-by-requires returns)

@@ -19,8 +19,8 @@ returns c =
     let a = c .before .before .before .before .before .before .before .before .before .before .before .before .args in
     rates-refused (rows (now (a .heights)) (now (a .marks)) (now (a .rates)) (now (a .sizes))) (rated (a .self) (now (a .hurdles)) (now (a .befores)) (now (a .aheads))) (outputs (now (a .scratch)) (now (a .out-numbers)) (now (a .out-marks))) (c .before .rates-refusal .result) (c .before .rates-refusal .ensures) (c .if1 .taken)
 
-answered-requires : tie.Need-answered-requires
-answered-requires c κs =
+rates-in-requires : tie.Need-rates-in-requires
+rates-in-requires c κs =
     let a = c .before .before .before .before .before .before .before .before .before .before .before .before .before .before .before .before .args in
     let r = c .before .before .before .before .before .rates-refusal in
     let v = rates-fit (a .self) _ _ _ _ _ _ _ _ _ _ (sym (r .ensures) ∙ c .before .before .before .before .if1 .left) in
@@ -33,7 +33,7 @@ put-answers-requires c κs =
     let r = c .before .before .before .before .before .before .before .before .before .before .before .before .before .before .before .before .rates-refusal in
     let v = rates-fit (a .self) _ _ _ _ _ _ _ _ _ _ (sym (r .ensures) ∙ c .before .before .before .before .before .before .before .before .before .before .before .before .before .before .before .if1 .left) in
     let f = within (a .self) (v .state) .few in
-    let e = rates-tracked (length (now (a .scratch))) (rows (now (a .heights)) (now (a .marks)) (now (a .rates)) (now (a .sizes))) (rated (a .self) (now (a .hurdles)) (now (a .befores)) (now (a .aheads))) _ (c .before .before .before .before .before .before .before .before .before .before .answered .ensures .0 (now (a .heights)) (now (a .sizes))) in
+    let e = rates-tracked (length (now (a .scratch))) (rows (now (a .heights)) (now (a .marks)) (now (a .rates)) (now (a .sizes))) (rated (a .self) (now (a .hurdles)) (now (a .befores)) (now (a .aheads))) _ (c .before .before .before .before .before .before .before .before .before .before .rates-in .ensures .0 (now (a .heights)) (now (a .sizes))) in
     (omega arith, omega (arith, v .numbers), omega (arith, v .marks))
 
 same-length : tie.Need-same-length
@@ -58,7 +58,7 @@ returns-2 : tie.Need-returns-2
 returns-2 c =
     let a = c .before .before .before .before .before .before .before .before .before .before .before .before .before .before .before .before .before .before .before .before .before .before .before .before .before .before .before .before .before .before .before .before .args in
     let r = c .before .before .before .before .before .before .before .before .before .before .before .before .before .before .before .before .before .before .before .before .before .rates-refusal in
-    let w = c .before .before .before .before .before .before .before .before .before .before .before .before .before .before .before .answered in
+    let w = c .before .before .before .before .before .before .before .before .before .before .before .before .before .before .before .rates-in in
     let p = c .before .before .before .before .put-answers in
     rates-done (rows (now (a .heights)) (now (a .marks)) (now (a .rates)) (now (a .sizes))) (rated (a .self) (now (a .hurdles)) (now (a .befores)) (now (a .aheads))) (outputs (now (a .scratch)) (now (a .out-numbers)) (now (a .out-marks))) _ _ (sym (r .ensures) ∙ c .before .before .before .before .before .before .before .before .before .before .before .before .before .before .before .before .before .before .before .before .if1 .left) (w .ensures .0 (now (a .heights)) (now (a .sizes))) (p .ensures .0) (p .ensures .1) (w .kept .1 .1 .1 .1 .1 .1 .0) (w .ensures .1 .0) (w .ensures .1 .1 (now (a .heights)) (now (a .sizes)))
 
@@ -68,7 +68,7 @@ rates-spec =
     (tie.spec
     rates-refusal-requires
     returns
-    answered-requires
+    rates-in-requires
     put-answers-requires
     same-length
     same-length-2

@@ -6,14 +6,14 @@ use native.Mathlib.Omega.{arith}
 use denote.Ref.{now}
 use lib.ListN.{length}
 use Rattle.rbitcoin_net.specs.Lent.{rows, hashes}
-use Rattle.rbitcoin_net.specs.Evictions.{Held, held, evictRows, evictIn}
+use Rattle.rbitcoin_net.specs.Evictions.{Hashed, hashed, evictRows, evictIn}
 use Rattle.rbitcoin_net.proofs.Evictions.{Going, evicted-at, within-budget, none-left, going-on, evicted-count}
 use Rattle.rbitcoin_net.proofs.fee_history.evict.evict.Statement.{statement}
 use Rattle.rbitcoin_net.proofs.fee_history.evict.evict.Tie as tie
 
 abbrev Inv-loop : tie.InvT-loop
 Inv-loop heights marks rates sizes hash-heights₀ hash-bytes₀ t₀ hash-heights hash-bytes t =
-    Going (rows heights marks [] sizes) (length heights) (length marks) (length rates) (length sizes) (evictRows (rows heights marks [] sizes) (t₀ .count) (held t₀ (hashes hash-heights₀ hash-bytes₀))) (held t (hashes hash-heights hash-bytes))
+    Going (rows heights marks [] sizes) (length heights) (length marks) (length rates) (length sizes) (evictRows (rows heights marks [] sizes) (t₀ .count) (hashed t₀ (hashes hash-heights₀ hash-bytes₀))) (hashed t (hashes hash-heights hash-bytes))
     × (length hash-heights ≡ length hash-heights₀)
     × (length hash-bytes ≡ length hash-bytes₀)
 
@@ -54,7 +54,7 @@ evict-one-requires c κs =
 loop-less : tie.Need-loop-less Inv-loop μ-loop
 loop-less c =
     let n = c .before .before .before .before .before .before .before .before .before .if2 .left in
-    let e = ap (λ (x : Held). x .state .count) (c .before .before .before .before .evict-one .ensures) ∙ evicted-count _ _ _ _ in
+    let e = ap (λ (x : Hashed). x .state .count) (c .before .before .before .before .evict-one .ensures) ∙ evicted-count _ _ _ _ in
     omega arith
 
 loop-again : tie.Need-loop-again Inv-loop μ-loop

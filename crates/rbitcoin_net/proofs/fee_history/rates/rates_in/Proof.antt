@@ -1,4 +1,4 @@
--- `fee_history::rates::answered` meets its contract. Assumes nothing.
+-- `fee_history::rates::rates_in` meets its contract. Assumes nothing.
 use Prim.Native.Nat.{_≤_}
 use mathlib.Core.List.{[]}
 use mathlib.Core.Path.{refl, sym, _∙_}
@@ -9,8 +9,8 @@ use Rattle.rbitcoin_net.specs.Lent.{rows}
 use Rattle.rbitcoin_net.specs.Rates.{rated}
 use Rattle.rbitcoin_net.proofs.Rates.{false-true, kept-answers, fresh-answers, fresh-tracked, fresh-scratch}
 use borrow.Author.Needs.{needs}
-use Rattle.rbitcoin_net.proofs.fee_history.rates.answered.Statement.{statement}
-use Rattle.rbitcoin_net.proofs.fee_history.rates.answered.Tie as tie
+use Rattle.rbitcoin_net.proofs.fee_history.rates.rates_in.Statement.{statement}
+use Rattle.rbitcoin_net.proofs.fee_history.rates.rates_in.Tie as tie
 
 returns : tie.Need-returns
 returns c =
@@ -57,8 +57,8 @@ returns-2 c =
       ),
     )
 
-pub answered-spec : {M : Type 1} → statement M
-answered-spec =
+pub rates-in-spec : {M : Type 1} → statement M
+rates-in-spec =
     tie.close
     (tie.spec
     returns
