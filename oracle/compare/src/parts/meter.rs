@@ -797,38 +797,40 @@ impl Part for FeeFlow {
         opening_rows(bench);
         let mut rng = Rng::new(1, "bench meter");
         let draw = |_| {
+            // As either side's clock has it.
             let gap = 500_000 + rng.below(1_000_000);
-            (400 + rng.below(400_000), draw_rate(&mut rng), gap)
+            let gaps = (gap, Duration::from_nanos(gap));
+            (400 + rng.below(400_000), draw_rate(&mut rng), gaps)
         };
-        let calls: Vec<(u64, u64, u64)> = (0..INPUTS).map(draw).collect();
+        let calls: Vec<(u64, u64, (u64, Duration))> = (0..INPUTS).map(draw).collect();
         let ((mut ours, mut clock), (mut theirs, start)) =
             (warm::<RattleMeter>(), warm::<Patched>());
         let mut instant = at(start);
-        let mut tick = |gap: u64| {
-            clock += gap;
+        let mut tick = |gaps: (u64, Duration)| {
+            clock += gaps.0;
             clock
         };
-        let mut tick_instant = |gap: u64| {
-            instant += Duration::from_nanos(gap);
+        let mut tick_instant = |gaps: (u64, Duration)| {
+            instant += gaps.1;
             instant
         };
         bench.row(
             "note_admit",
             &calls,
-            |&(weight, rate, gap)| rattle::note_admit(&mut ours, weight, rate, tick(gap)),
-            |&(weight, rate, gap)| theirs.note_admit(weight, rate, tick_instant(gap)),
+            |&(weight, rate, gaps)| rattle::note_admit(&mut ours, weight, rate, tick(gaps)),
+            |&(weight, rate, gaps)| theirs.note_admit(weight, rate, tick_instant(gaps)),
         );
         bench.row(
             "fullness",
             &calls,
-            |&(_, _, gap)| rattle::fullness(&mut ours, tick(gap)),
-            |&(_, _, gap)| theirs.fullness(tick_instant(gap)),
+            |&(_, _, gaps)| rattle::fullness(&mut ours, tick(gaps)),
+            |&(_, _, gaps)| theirs.fullness(tick_instant(gaps)),
         );
         bench.row(
             "admit_rates_wu_s",
             &calls,
-            |&(_, _, gap)| rattle::admit_rates_wu_s(&mut ours, tick(gap)).wu_s[0],
-            |&(_, _, gap)| theirs.admit_rates_wu_s(tick_instant(gap)),
+            |&(_, _, gaps)| rattle::admit_rates_wu_s(&mut ours, tick(gaps)).wu_s[0],
+            |&(_, _, gaps)| theirs.admit_rates_wu_s(tick_instant(gaps)),
         );
     }
 }
