@@ -1,15 +1,17 @@
 -- From 2 ^ 52 to 2 ^ 53 `round` gives the nearest whole number, so that x + 2 ^ 52 - 2 ^ 52 is the whole part of x or one more. Assumes nothing.
 use mathlib.Core.Path.{_≡_, refl, sym, ap, _∙_, subst}
-use Prim.Native.Nat.{ℕ, suc, _+_, _-_, _*_, _/_, _^_, _≤_, _<_}
+use Prim.Native.Nat.{ℕ, suc, _+_, _-_, _*_, _/_, _%_, _^_, _≤_, _<_}
 use native.Mathlib.Nat.{le-trans, le-of-eq, lt-of-lt-of-le, lt-of-not-le, not-le-of-lt, mul-assoc, mul-comm, mul-one, mul-right-comm, mul-le-mul-right, mul-lt-mul-of-pos-right, mul-pos, le-div-iff-mul-le, div-lt-iff-lt-mul, eq-of-mul-eq-mul-right}
 use native.Mathlib.Omega.{arith}
-use mathlib.Core.Bool.{false}
-use lib.Dec.{lit≤, lit<}
+use mathlib.Core.Bool.{Bool, false, not}
+use lib.Dec.{T, leb, lit≤, lit<}
+use borrow.Author.Tests.{lt-leb}
 use lib.Pow.{pow-add, pow-pos, pow-mono, pow-lt}
 use lib.IntN.{pos}
-use lib.Ieee.{Float, nan, inf, fin, binary64, low, emax, up, down, size, round, add, sub, ofInt}
+use lib.Ieee.{Float, nan, inf, fin, binary64, low, emax, up, down, size, round, add, sub, ofInt, ofFields, ofBits, nanBits, isNan}
 use lib.Ieee.Digits.{size-lt, size-le}
-use lib.Ieee.Exact.{HasValue}
+use lib.Ieee.Bits.{nanBits-is}
+use lib.Ieee.Exact.{HasValue, odd-sign}
 use lib.Ieee.Nearest.{closest, closest-same}
 use lib.Ieee.Order.{drop}
 use lib.Ieee.Scale.{grid, round-val}
@@ -101,3 +103,40 @@ lands x A D n p v lo hi small =
       is = sub-value binary64 (add binary64 x limit) limit w 1 (2 ^ 52) 1 (lit< tt) (lit< tt) h (refl, refl) (omega (arith, l))
           ∙ ap (λ (z : ℕ). round binary64 false z 1) (ones w (2 ^ 52));
     }
+
+-- ---- 2 ^ 52 + n by its bits, and so a whole number below 2 ^ 52 as a float
+abbrev pub bitsOf : ℕ → ℕ
+bitsOf n = 4841369599423283200 + n
+
+sign-field : (n : ℕ) → n < 2 ^ 52 → leb (2 ^ 63) (bitsOf n) ≡ false
+sign-field n h = lt-leb (2 ^ 63) (bitsOf n) (omega arith)
+
+exponent-field : (n : ℕ) → n < 2 ^ 52 → bitsOf n % 2 ^ 63 / 2 ^ 52 ≡ suc 1074
+exponent-field n h = omega arith
+
+digits-field : (n : ℕ) → n < 2 ^ 52 → bitsOf n % 2 ^ 52 ≡ n
+digits-field n h = omega arith
+
+bits-value : (n : ℕ) → n < 2 ^ 52 → HasValue (ofBits binary64 (bitsOf n)) false (2 ^ 52 + n) 1
+unfolding ofBits ofFields
+bits-value n h =
+    in-ones (ofBits binary64 (bitsOf n)) (2 ^ 52 + n) (2 ^ 1074) (pow-pos 1074)
+    (rw (sign-field n h, exponent-field n h, digits-field n h) (odd-sign 53 false (2 ^ 52 + n) 1074 1074))
+
+pub bits-number : (n : ℕ) → n < 2 ^ 52 → T (not (nanBits binary64 (bitsOf n)))
+unfolding isNan
+bits-number n h = subst (λ (t : Bool). T (not t)) (sym (nanBits-is binary64 (bitsOf n))) (no-nan (ofBits binary64 (bitsOf n)) (bits-value n h))
+  where
+    no-nan : (x : Float) → HasValue x false (2 ^ 52 + n) 1 → T (not (isNan x))
+    no-nan nan v = v
+    no-nan (inf s) v = tt
+    no-nan (fin s m e) v = tt
+
+pub bits-float : (n : ℕ) → n < 2 ^ 52 → sub binary64 (ofBits binary64 (bitsOf n)) (fin false 1 (pos 52)) ≡ ofU64 n
+unfolding ofInt
+bits-float n h =
+    sub-value binary64 (ofBits binary64 (bitsOf n)) (fin false 1 (pos 52)) (2 ^ 52 + n) 1 (2 ^ 52) 1 (lit< tt) (lit< tt) (bits-value n h) (refl, refl) (omega arith)
+    ∙ ap (λ (z : ℕ). round binary64 false z 1) (rest n)
+  where
+    rest : (n : ℕ) → (2 ^ 52 + n) * 1 - 2 ^ 52 * 1 ≡ n
+    rest n = omega arith

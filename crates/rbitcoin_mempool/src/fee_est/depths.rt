@@ -1,6 +1,8 @@
 // The rate of one depth: live flow blended with history, and both with the warm-up share.
 ghost use mathlib.Core.Path.{_≡_};
 ghost use mathlib.Core.Bool.{cond};
+ghost use Prim.Native.Nat.{_<_, _^_};
+ghost use Rattle.num.specs.Float.{ofU64};
 ghost use Rattle.rbitcoin_mempool.specs.Rates.{given};
 ghost use Rattle.rbitcoin_mempool.specs.Depths.{blendWeight, flowForDepth, blended, warmed, or, greater, blendSatKvb, clampedShare, blendBy, warmupBlend, coldRate, warmRate, depthRateSatKvb, floored, publishedDepthRate};
 ghost use Rattle.rbitcoin_mempool.specs.Exact.{InUnit, asFracs, Within, Both, BoundedRate, exactBlend, exactBy, exactPublished};
@@ -12,12 +14,21 @@ pub const BLEND_N0: f64 = 6.0;
 // A pool thinner than N blocks still quotes flow where the weight is at least this.
 pub const NEAR_BLEND_FLOOR: f64 = 0.5;
 
+// A number of blocks as a float, by the bits of 2^52 + n. The conversion that the compiler makes of a cast would wait for
+// what the register had before.
+fn float_of(n: u64) -> f64
+    requires { ⌜ n < 2 ^ 52 ⌝ }
+    ensures { λ r. ⌜ r ≡ ofU64 n ⌝ }
+{
+    f64::from_bits(0x4330_0000_0000_0000 + n) - 4503599627370496.0
+}
+
 // Weight of the live flow against historical blocks, from 0 to 1.
 pub fn blend_weight(n_blocks: u32) -> f64
     ensures { λ r. ⌜ r ≡ blendWeight «n_blocks» ⌝ }
     ensures { λ r. ⌜ InUnit r ⌝ }
 {
-    let n = num::float::from_u64(num::word::greatest(n_blocks as u64, 1));
+    let n = float_of(num::word::greatest(n_blocks as u64, 1));
     num::exp::exp(-(n - 1.0) / BLEND_N0)
 }
 
