@@ -1,4 +1,4 @@
-# What run, bench and replay share. Sourced by them.
+# What run, bench, profile and replay share. Sourced by them.
 
 oracle=$(cd "$(dirname "${BASH_SOURCE[0]}")" && pwd)
 root=$(dirname "$oracle")

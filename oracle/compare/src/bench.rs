@@ -3,7 +3,7 @@
 use std::hint::black_box;
 use std::time::{Duration, Instant};
 
-/// So many inputs that no processor learns which way the branches on them go: 4,096 are few enough.
+/// So many inputs that no processor learns which way the branches on them go; of 4,096 it does.
 pub const INPUTS: usize = 1 << 17;
 /// The shortest time that one measurement of a side takes.
 const LEAST: Duration = Duration::from_millis(2);
