@@ -3,11 +3,10 @@ use Prim.Native.Nat.{ℕ, zero, suc}
 use mathlib.Core.Path.{_≡_, refl, ap, sym, _∙_}
 use Rattle.rbitcoin_mempool.specs.declared.answer.Outcome.{Outcome}
 use Rattle.rbitcoin_mempool.specs.declared.answer.Outcome.the-variants.{Done, Refused}
-use Rattle.rbitcoin_mempool.specs.Outcome.{Verdict, verdict, verdictOf}
+use Rattle.rbitcoin_mempool.specs.Outcome.{Verdict, verdict, verdictNumber, verdictOf}
 use Rattle.rbitcoin_mempool.specs.Rates.{refusalNumber, numberOf}
 use Rattle.rbitcoin_mempool.specs.Counted.{Counted, countedOf}
-use Rattle.rbitcoin_net.specs.Openings.{verdictNumber}
-use Rattle.exports.specs.Updates.{countRefusal, countNumber}
+use Rattle.exports.specs.Counts.{countRefusal, countNumber}
 
 -- the number of an outcome, by its verdict and by the refusal that may be there
 pub number-same : (o : Outcome) → verdictNumber (verdict o) ≡ numberOf (refusalNumber o)

@@ -1,4 +1,4 @@
 -- The definitions that the contracts cite.
 pub mod Fields
-pub mod Updates
+pub mod Counts
 pub mod Blocks

@@ -1,18 +1,18 @@
 // The functions of the held blocks. The state passes by value, and so do a block and a hash.
 ghost use mathlib.Core.Path.{_≡_};
 ghost use Rattle.rbitcoin_mempool.specs.Counted.{countedOf};
-ghost use Rattle.rbitcoin_mempool.specs.Outcome.{verdict, verdictOf};
+ghost use Rattle.rbitcoin_mempool.specs.Outcome.{verdict, verdictNumber, verdictOf};
 ghost use Rattle.rbitcoin_mempool.specs.Rates.{given, markOf, numberOf};
 ghost use Rattle.rbitcoin_net.specs.Cuts.{Truncates};
 ghost use Rattle.rbitcoin_net.specs.Hashes.{hashOf};
 ghost use Rattle.rbitcoin_net.specs.Inserts.{whole, Inserts, InsertsIfAbsent};
 ghost use Rattle.rbitcoin_net.specs.Lent.{rows, hashes, lent};
-ghost use Rattle.rbitcoin_net.specs.Openings.{verdictNumber, Opens};
+ghost use Rattle.rbitcoin_net.specs.Openings.{Opens};
 ghost use Rattle.rbitcoin_net.specs.Rates.{rated, outputs, AnswersRates};
 ghost use Rattle.rbitcoin_net.specs.Readers.{Entries, RecentHashes};
 ghost use Rattle.rbitcoin_net.specs.Search.{looked, getIn};
 ghost use Rattle.exports.specs.Blocks.{blockOf, BlockIs};
-ghost use Rattle.exports.specs.Updates.{countNumber};
+ghost use Rattle.exports.specs.Counts.{countNumber};
 use crate::rate::refusal_number;
 use crate::windows::CountFields;
 use crate::windows::count_fields;

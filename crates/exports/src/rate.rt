@@ -1,8 +1,7 @@
 // An answer for a caller in another language.
 ghost use mathlib.Core.Path.{_≡_};
 ghost use Rattle.rbitcoin_mempool.specs.Answer.{answer};
-ghost use Rattle.rbitcoin_mempool.specs.Outcome.{verdict};
-ghost use Rattle.rbitcoin_net.specs.Openings.{verdictNumber};
+ghost use Rattle.rbitcoin_mempool.specs.Outcome.{verdict, verdictNumber};
 ghost use Rattle.exports.specs.Fields.{Fields};
 use rbitcoin_mempool::answer::Outcome;
 use rbitcoin_mempool::answer::RateAnswer;

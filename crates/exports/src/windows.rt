@@ -2,16 +2,15 @@
 ghost use mathlib.Core.Path.{_≡_};
 ghost use lib.ListN.{length};
 ghost use Rattle.rbitcoin_mempool.specs.Answer.{answer};
-ghost use Rattle.rbitcoin_mempool.specs.Outcome.{verdict};
+ghost use Rattle.rbitcoin_mempool.specs.Outcome.{verdict, verdictNumber};
 ghost use Rattle.rbitcoin_mempool.specs.Counted.{counted, countedOf};
 ghost use Rattle.rbitcoin_mempool.specs.Median.{analogLookback, lnRate, lowerMedian};
 ghost use Rattle.rbitcoin_mempool.specs.Nearest.{analogBand};
 ghost use Rattle.rbitcoin_mempool.specs.Quantile.{historicalConfidenceFar, logQuantile, logQuantileLeaves};
 ghost use Rattle.rbitcoin_mempool.specs.Windows.{windows, openRefusal, opened, stateRefusal, pushRefusalOf, pushBackOf, pushFrontOf, popBackOf, popFrontOf, rebuildRefusalOf, rebuiltOf, pairCount};
 ghost use Rattle.rbitcoin_mempool.specs.Scan.{rateSatKvb, ScratchAfter};
-ghost use Rattle.rbitcoin_net.specs.Openings.{verdictNumber};
 ghost use Rattle.exports.specs.Fields.{Fields};
-ghost use Rattle.exports.specs.Updates.{countRefusal, countNumber};
+ghost use Rattle.exports.specs.Counts.{countRefusal, countNumber};
 use crate::rate::RateFields;
 use crate::rate::rate_fields;
 use crate::rate::refusal_number;

@@ -18,7 +18,7 @@ use replay_lines::put;
 use replay_lines::word_at;
 ghost use Prim.Native.Nat.{_≤_};
 
-fn number_of(o: Outcome) -> u64 {
+fn refusal_number(o: Outcome) -> u64 {
     match o {
         Outcome::Done => 0,
         Outcome::Refused(refusal) => refusal as u64,
@@ -183,7 +183,7 @@ fn call_all(
         let outcome = r.outcome;
         state = r.state;
         let held = state.get(height_of(code), heights, marks, rates, sizes);
-        digest = found(mix(digest, number_of(outcome)), held);
+        digest = found(mix(digest, refusal_number(outcome)), held);
     }
     Replayed { state, digest }
 }
@@ -347,7 +347,7 @@ fn put_rates(
         &mut out_marks,
     );
     let outcome = r.outcome;
-    put_answer(number_of(outcome), out_numbers, out_marks);
+    put_answer(refusal_number(outcome), out_numbers, out_marks);
     r.state
 }
 
@@ -416,7 +416,7 @@ fn replay(budget: u64, targets: &[u32], capacity: usize, calls: &[u64], rated: b
     );
     let outcome = r.outcome;
     let state = r.state;
-    let digest = number_of(outcome);
+    let digest = refusal_number(outcome);
     let after = call_all(
         Replayed { state, digest },
         calls,

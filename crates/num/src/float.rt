@@ -98,7 +98,7 @@ pub fn clamp(x: f64, lo: f64, hi: f64) -> f64
     clamp_below(x, hi)
 }
 
-// The same as a float.
+// The whole part of x as a float, for x above 0 and below 2^52, by the same sum as in `part_below`.
 fn whole_below(x: f64) -> f64
     requires { ⌜ T (lt (fin false 0 (pos 0)) x) ⌝ }
     requires { ⌜ T (lt x (fin false 1 (pos 52))) ⌝ }

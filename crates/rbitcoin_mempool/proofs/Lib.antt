@@ -32,7 +32,7 @@ pub mod CaseL
 pub mod Ranks
 pub mod Blend
 pub mod Units
-pub mod Mixes
+pub mod NearBlends
 pub mod Published
 pub mod Runs
 pub mod Places

@@ -10,7 +10,7 @@ use lib.Ieee.{Float, nan, inf, fin, le}
 use borrow.Author.Tests.{leb-true, leb-false}
 use Rattle.rbitcoin_mempool.specs.Depths.{one64, half64, blendWeight, flowForDepth, warmed, or, greater, blendSatKvb, clampedShare, blendBy, warmupBlend, coldRate, warmRate, floored, publishedDepthRate}
 use Rattle.rbitcoin_mempool.specs.Exact.{InUnit, Frac, asFrac, asFracs, weight, blend, greaterFrac, Within, Both, BoundedRate, exactBlend, exactWarm, exactFloor, exactBy, exactPublished}
-use Rattle.rbitcoin_mempool.proofs.Mixes.{blended-near, warmed-near}
+use Rattle.rbitcoin_mempool.proofs.NearBlends.{blended-near, warmed-near}
 use Rattle.rbitcoin_mempool.proofs.Units.{share-in, weight-up-to}
 
 -- ---- whole numbers and bounds

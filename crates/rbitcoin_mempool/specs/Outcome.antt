@@ -18,6 +18,11 @@ abbrev pub refusalIn : Verdict → Option ℕ
 refusalIn done = none
 refusalIn (refused k) = some k
 
+-- the number of a refusal, 0 where it was done
+abbrev pub verdictNumber : Verdict → ℕ
+verdictNumber done = 0
+verdictNumber (refused k) = k
+
 -- of a refusal's number, 0 for no refusal
 unfoldable pub verdictOf : ℕ → Verdict
 verdictOf zero = done

@@ -53,7 +53,7 @@ fn secs_between(from: u64, to: u64) -> f64
 }
 
 // The share of a rate that is left after a time.
-fn kept_after(dt: f64) -> f64
+fn share_left(dt: f64) -> f64
     ensures { λ r. ⌜ r ≡ shareLeft dt ⌝ }
 {
     num::exp::exp(-LN_2 * dt / FeeFlowMeter::ADMIT_HALF_LIFE_SECS)
@@ -66,7 +66,7 @@ fn share_after(dt: f64) -> f64
     if dt <= 0.0 {
         return 1.0;
     }
-    kept_after(dt)
+    share_left(dt)
 }
 
 // The share that is left since the clock `last`. The one since the last admission, which is at
@@ -186,7 +186,7 @@ impl FeeFlowMeter {
         let last_admit = self.last_admit;
         let weight = num::float::from_u64(weight_wu);
         let dt = num::float::max(secs_between(last_admit, now), LEAST_SECS);
-        let kept_dt = kept_after(dt);
+        let kept_dt = share_left(dt);
         let added = weight / dt * (1.0 - kept_dt);
         let since = secs_between(last, now);
         let share = share_since(last, last_admit, now, dt, kept_dt);

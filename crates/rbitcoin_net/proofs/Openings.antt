@@ -10,7 +10,7 @@ use borrow.Author.Tests.{eq-eqb, ne-eqb}
 use Rattle.slices.specs.Lists.{tabulate}
 use Rattle.slices.proofs.Lists.{tabulate-at, tabulate-is, tabulate-same}
 use Rattle.rbitcoin_mempool.specs.declared.fee_analog.history.AnalogHistory.{AnalogHistory}
-use Rattle.rbitcoin_mempool.specs.Outcome.{Verdict, done, refused, verdictOf}
+use Rattle.rbitcoin_mempool.specs.Outcome.{Verdict, done, refused, verdictNumber, verdictOf}
 use Rattle.rbitcoin_mempool.specs.Windows.{held, windows, Valid}
 use Rattle.rbitcoin_mempool.specs.Windows.{fresh as freshWindows, unopened as unopenedWindows, opened as openedWindows, openRefusal as windowsOpenRefusal, stateRefusal as windowsRefusal, sizeRefusal as windowsSizeRefusal, lentRefusal as windowsLentRefusal}
 use Rattle.rbitcoin_mempool.proofs.Kept.{empty-good, good-stored}
@@ -18,7 +18,7 @@ use Rattle.rbitcoin_mempool.proofs.Refusals.{refusing, first-stands, then-secon
 use Rattle.rbitcoin_mempool.proofs.Refusals.{lent as windows-lent}
 use Rattle.rbitcoin_net.specs.History.{new, hurdlesOf}
 use Rattle.rbitcoin_net.specs.Lent.{Lent, view, heldRows, hashesIn, keptRates, windowsOf, stateRefusal, Sound}
-use Rattle.rbitcoin_net.specs.Openings.{freshOf, verdictNumber, memoryRefusal, openRefusal, Opens}
+use Rattle.rbitcoin_net.specs.Openings.{freshOf, memoryRefusal, openRefusal, Opens}
 use Rattle.rbitcoin_net.specs.declared.fee_history.FeeHistory.{FeeHistory}
 use Rattle.rbitcoin_net.proofs.Refusals.{both-zero, parts-lent, state-taken}
 

@@ -6,7 +6,7 @@ use mathlib.Core.List.{List}
 use lib.Dec.{eqb}
 use lib.ListN.{length, replicate}
 use Rattle.rbitcoin_mempool.specs.declared.fee_analog.history.AnalogHistory.{AnalogHistory}
-use Rattle.rbitcoin_mempool.specs.Outcome.{Verdict, done, refused, verdictOf}
+use Rattle.rbitcoin_mempool.specs.Outcome.{Verdict, verdictOf}
 use Rattle.rbitcoin_mempool.specs.Windows.{orElse}
 use Rattle.rbitcoin_mempool.specs.Windows.{fresh as freshWindows, unopened as unopenedWindows, openRefusal as windowsOpenRefusal}
 use Rattle.rbitcoin_net.specs.History.{new}
@@ -16,11 +16,6 @@ use Rattle.rbitcoin_net.specs.declared.fee_history.FeeHistory.{FeeHistor
 -- a state with nothing held, over windows
 unfoldable pub freshOf : ℕ → AnalogHistory → FeeHistory
 freshOf budget a = record { analog = a; «analog_stale» = false; start = 0; count = 0; «txstat_bytes» = 0; budget = budget; hashes = 0; kept = false; «kept_numbers» = replicate 16 0; «kept_marks» = replicate 16 0 }
-
--- the number of a refusal, 0 for none
-abbrev pub verdictNumber : Verdict → ℕ
-verdictNumber done = 0
-verdictNumber (refused k) = k
 
 -- 5 for rows or hashes that are too short, over a capacity
 unfoldable pub memoryRefusal : ℕ → ℕ → ℕ → ℕ → ℕ → ℕ → ℕ → ℕ

@@ -28,7 +28,7 @@ use inserts::insert_absent_lent;
 use inserts::insert_lent;
 use open::fresh;
 use open::memory_refusal;
-use open::refusal_in;
+use open::refusal_number;
 use open::unopened;
 use rates::put_answers;
 use rates::rates_in;
@@ -115,7 +115,7 @@ impl FeeHistory {
         let windows = AnalogHistory::new(targets, capacity, hurdles, befores, aheads);
         let outcome = windows.outcome;
         let analog = windows.state;
-        let of_windows = refusal_in(outcome);
+        let of_windows = refusal_number(outcome);
         if of_windows != 0 {
             return HistoryUpdate {
                 outcome: Outcome::Refused(of_windows),

@@ -46,7 +46,7 @@ fn quantile(words: &[u64]) {
     put_quantile(&mut list[..n], float_of(word_at(words, 0)));
 }
 
-fn number_of(o: Outcome) -> u64 {
+fn refusal_number(o: Outcome) -> u64 {
     match o {
         Outcome::Done => 0,
         Outcome::Refused(refusal) => refusal as u64,
@@ -140,7 +140,7 @@ fn call_all(
             aheads,
         );
         let outcome = r.outcome;
-        refusals = mix(refusals, number_of(outcome));
+        refusals = mix(refusals, refusal_number(outcome));
         s = r.state;
         i += 1;
     }
@@ -207,7 +207,7 @@ fn windows(words: &[u64]) {
     let opened = AnalogHistory::new(&targets[..n], 24, &hurdles, &befores, &aheads);
     let state = opened.state;
     let outcome = opened.outcome;
-    let refusals = number_of(outcome);
+    let refusals = refusal_number(outcome);
     let start = Replayed { state, refusals };
     let after = call_all(
         start,

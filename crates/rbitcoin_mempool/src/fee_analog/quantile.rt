@@ -40,7 +40,7 @@ fn blend(a: u64, b: u64, frac: f64) -> u64
 }
 
 // Between two neighbours; a rank that lands on one hurdle, including a repeated one, stays there.
-fn between(a: u64, b: u64, rank: f64) -> u64
+fn between_neighbors(a: u64, b: u64, rank: f64) -> u64
     ensures { λ r. ⌜ r ≡ betweenNeighbors a b rank ⌝ }
 {
     if a == b {
@@ -60,11 +60,11 @@ pub(crate) fn quantile_of(xs: &[u64], confidence: f64) -> u64
     let a = slices::order::nth_smallest(xs, lower);
     if lower <= upper {
         if upper < slices::order::count_at_most(xs, a) {
-            return between(a, a, rank);
+            return between_neighbors(a, a, rank);
         }
     }
     let b = slices::order::nth_smallest(xs, upper);
-    between(a, b, rank)
+    between_neighbors(a, b, rank)
 }
 
 // A confidence from 0 to 1, and no NaN.
@@ -104,5 +104,5 @@ pub fn log_quantile(outcomes: &mut [u64], confidence: f64) -> RateAnswer
     let rank = rank_of(confidence, n);
     let a = element(outcomes, lower_place(rank));
     let b = element(outcomes, upper_place(rank));
-    RateAnswer::Found(between(a, b, rank))
+    RateAnswer::Found(between_neighbors(a, b, rank))
 }

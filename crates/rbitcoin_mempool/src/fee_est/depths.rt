@@ -16,7 +16,7 @@ pub const NEAR_BLEND_FLOOR: f64 = 0.5;
 
 // A number of blocks as a float, by the bits of 2^52 + n. The conversion that the compiler makes of a cast would wait for
 // what the register had before.
-fn float_of(n: u64) -> f64
+fn as_float(n: u64) -> f64
     requires { ⌜ n < 2 ^ 52 ⌝ }
     ensures { λ r. ⌜ r ≡ ofU64 n ⌝ }
 {
@@ -28,7 +28,7 @@ pub fn blend_weight(n_blocks: u32) -> f64
     ensures { λ r. ⌜ r ≡ blendWeight «n_blocks» ⌝ }
     ensures { λ r. ⌜ InUnit r ⌝ }
 {
-    let n = float_of(num::word::greatest(n_blocks as u64, 1));
+    let n = as_float(num::word::greatest(n_blocks as u64, 1));
     num::exp::exp(-(n - 1.0) / BLEND_N0)
 }
 

@@ -1,8 +1,8 @@
 // What an opening is made of.
 ghost use mathlib.Core.Path.{_≡_};
-ghost use Rattle.rbitcoin_mempool.specs.Outcome.{verdict};
+ghost use Rattle.rbitcoin_mempool.specs.Outcome.{verdict, verdictNumber};
 ghost use Rattle.rbitcoin_mempool.specs.Windows.{unopened as unopenedWindows};
-ghost use Rattle.rbitcoin_net.specs.Openings.{freshOf, verdictNumber, memoryRefusal};
+ghost use Rattle.rbitcoin_net.specs.Openings.{freshOf, memoryRefusal};
 use super::FeeHistory;
 use super::refusals::hashes_size_refusal;
 use super::refusals::rows_size_refusal;
@@ -40,7 +40,7 @@ pub(crate) fn unopened() -> AnalogHistory
     }
 }
 
-pub(crate) fn refusal_in(o: Outcome) -> u8
+pub(crate) fn refusal_number(o: Outcome) -> u8
     ensures { λ r. ⌜ r ≡ verdictNumber (verdict o) ⌝ }
 {
     match o {

@@ -1,7 +1,7 @@
 -- `exports::windows::juleyomu_windows_pairs` meets its contract: the fields are those of the answer. Assumes nothing.
 use borrow.Author.Needs.{needs}
 use mathlib.Core.Path.{ap, _∙_}
-use Rattle.exports.specs.Updates.{countRefusal, countNumber}
+use Rattle.exports.specs.Counts.{countRefusal, countNumber}
 use Rattle.exports.proofs.windows.juleyomu_windows_pairs.Statement.{statement}
 use Rattle.exports.proofs.windows.juleyomu_windows_pairs.Tie as tie
 

@@ -10,11 +10,11 @@ returns : tie.Need-returns
 unfolding ofBits ofInt
 returns c h = absurd (true≢false (sym (c .if1 .taken) ∙ h))
 
-kept-after-requires : tie.Need-kept-after-requires
-kept-after-requires c κs = search needs
+share-left-requires : tie.Need-share-left-requires
+share-left-requires c κs = search needs
 
 returns-2 : tie.Need-returns-2
 returns-2 c = search needs
 
 pub share-after-spec : {M : Type 1} → statement M
-share-after-spec = tie.close (tie.spec returns kept-after-requires returns-2)
+share-after-spec = tie.close (tie.spec returns share-left-requires returns-2)

@@ -38,8 +38,8 @@ upper-place-requires c κs = search needs
 element-requires-2 : tie.Need-element-requires-2
 element-requires-2 c κs = search needs
 
-between-requires : tie.Need-between-requires
-between-requires c κs = search needs
+between-neighbors-requires : tie.Need-between-neighbors-requires
+between-neighbors-requires c κs = search needs
 
 same-length : tie.Need-same-length
 same-length c = search needs
@@ -57,7 +57,7 @@ returns-3 c =
     (c .before .before .upper-place .ensures)
     (c .before .before .before .before .element .ensures ∙ ap (λ l. getD l (c .before .before .before .before .before .lower-place .result) 0) z)
     (c .before .element2 .ensures ∙ ap (λ l. getD l (c .before .before .upper-place .result) 0) z)
-    (c .between .ensures) in
+    (c .between-neighbors .ensures) in
     (ap rate q ∙ quantile-found (a .confidence) (a .outcomes .now) (e .before .before .if1 .left) h, z ∙ leaves-sorted (a .confidence) (a .outcomes .now) h)
 
 pub log-quantile-spec : {M : Type 1} → statement M
@@ -73,6 +73,6 @@ log-quantile-spec =
     element-requires
     upper-place-requires
     element-requires-2
-    between-requires
+    between-neighbors-requires
     same-length
     returns-3)

@@ -19,8 +19,8 @@ nth-smallest-requires c κs = search needs
 count-at-most-requires : tie.Need-count-at-most-requires
 count-at-most-requires c κs = search needs
 
-between-requires : tie.Need-between-requires
-between-requires c κs = search needs
+between-neighbors-requires : tie.Need-between-neighbors-requires
+between-neighbors-requires c κs = search needs
 
 returns : tie.Need-returns
 returns c =
@@ -32,13 +32,13 @@ returns c =
     (c .before .before .before .before .before .upper-place .ensures)
     a
     (repeated _ _ (s .xs .now) _ _ a (c .before .before .count-at-most .ensures) (c .before .before .before .if1 .taken) (c .before .if2 .taken))
-    (c .between .ensures)
+    (c .between-neighbors .ensures)
 
 nth-smallest-requires-2 : tie.Need-nth-smallest-requires-2
 nth-smallest-requires-2 c κs = search needs
 
-between-requires-2 : tie.Need-between-requires-2
-between-requires-2 c κs = search needs
+between-neighbors-requires-2 : tie.Need-between-neighbors-requires-2
+between-neighbors-requires-2 c κs = search needs
 
 returns-2 : tie.Need-returns-2
 returns-2 c =
@@ -49,7 +49,7 @@ returns-2 c =
     (c .before .before .before .before .upper-place .ensures)
     (c .before .before .before .nth-smallest .ensures)
     (c .before .nth-smallest2 .ensures)
-    (c .between2 .ensures)
+    (c .between-neighbors2 .ensures)
 
 pub quantile-of-spec : {M : Type 1} → statement M
 quantile-of-spec =
@@ -60,8 +60,8 @@ quantile-of-spec =
     upper-place-requires
     nth-smallest-requires
     count-at-most-requires
-    between-requires
+    between-neighbors-requires
     returns
     nth-smallest-requires-2
-    between-requires-2
+    between-neighbors-requires-2
     returns-2)

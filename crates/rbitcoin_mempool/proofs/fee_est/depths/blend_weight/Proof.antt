@@ -14,15 +14,15 @@ use Rattle.rbitcoin_mempool.proofs.fee_est.depths.blend_weight.Tie as t
 greatest-requires : tie.Need-greatest-requires
 greatest-requires c κs = search needs
 
-float-of-requires : tie.Need-float-of-requires
-float-of-requires c κs = omega (arith, c .greatest .ensures)
+as-float-requires : tie.Need-as-float-requires
+as-float-requires c κs = omega (arith, c .greatest .ensures)
 
 exp-requires : tie.Need-exp-requires
 exp-requires c κs = search needs
 
 equal : (c : tie.After-exp) → c .exp .result ≡ blendWeight (c .before .before .before .args .n-blocks)
 unfolding blendWeight ofBits
-equal c = c .exp .ensures ∙ ap (λ (x : Float). expOf (div binary64 (neg (sub binary64 x one64)) six64)) (c .before .float-of .ensures ∙ ap ofU64 (c .before .before .greatest .ensures))
+equal c = c .exp .ensures ∙ ap (λ (x : Float). expOf (div binary64 (neg (sub binary64 x one64)) six64)) (c .before .as-float .ensures ∙ ap ofU64 (c .before .before .greatest .ensures))
 
 returns : tie.Need-returns
 returns c =
@@ -30,4 +30,4 @@ returns c =
     (e, subst InUnit (sym e) (weight-in (c .before .before .before .args .n-blocks) (omega arith)))
 
 pub blend-weight-spec : {M : Type 1} → statement M
-blend-weight-spec = tie.close (tie.spec greatest-requires float-of-requires exp-requires returns)
+blend-weight-spec = tie.close (tie.spec greatest-requires as-float-requires exp-requires returns)

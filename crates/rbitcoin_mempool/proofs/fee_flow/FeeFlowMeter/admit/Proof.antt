@@ -20,8 +20,8 @@ secs-between-requires c κs = search needs
 max-requires : tie.Need-max-requires
 max-requires c κs = search needs
 
-kept-after-requires : tie.Need-kept-after-requires
-kept-after-requires c κs = search needs
+share-left-requires : tie.Need-share-left-requires
+share-left-requires c κs = search needs
 
 secs-between-requires-2 : tie.Need-secs-between-requires-2
 secs-between-requires-2 c κs = search needs
@@ -30,7 +30,7 @@ share-since-requires : tie.Need-share-since-requires
 unfolding ofBits round
 share-since-requires c κs =
     let e = c .before .before .max .ensures in
-    (rw (c .before .before .before .secs-between .ensures) at e, c .before .kept-after .ensures)
+    (rw (c .before .before .before .secs-between .ensures) at e, c .before .share-left .ensures)
 
 decay-rates-requires : tie.Need-decay-rates-requires
 decay-rates-requires c κs =
@@ -71,7 +71,7 @@ unfolding noteAdmit decayTo admitted ofBits ofInt round
 returns c =
     let b = c .before .before .before .before .before .before in
     let a = b .before .before .before in
-    rw (c .before .before .before .decay-rates .ensures, a .before .before .bucket-index .ensures, c .before .decay-total .ensures, c .decay-clock .ensures, b .secs-between2 .ensures, b .before .kept-after .ensures, b .before .before .max .ensures, a .secs-between .ensures, a .before .from-u64 .ensures)
+    rw (c .before .before .before .decay-rates .ensures, a .before .before .bucket-index .ensures, c .before .decay-total .ensures, c .decay-clock .ensures, b .secs-between2 .ensures, b .before .share-left .ensures, b .before .before .max .ensures, a .secs-between .ensures, a .before .from-u64 .ensures)
 
 pub admit-spec : {M : Type 1} → statement M
 admit-spec =
@@ -81,7 +81,7 @@ admit-spec =
     from-u64-requires
     secs-between-requires
     max-requires
-    kept-after-requires
+    share-left-requires
     secs-between-requires-2
     share-since-requires
     decay-rates-requires

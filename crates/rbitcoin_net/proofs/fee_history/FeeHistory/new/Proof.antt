@@ -9,14 +9,14 @@ use Rattle.rbitcoin_net.proofs.fee_history.FeeHistory.new.Tie as tie
 new-requires : tie.Need-new-requires
 new-requires c κs = search needs
 
-refusal-in-requires : tie.Need-refusal-in-requires
-refusal-in-requires c κs = search needs
+refusal-number-requires : tie.Need-refusal-number-requires
+refusal-number-requires c κs = search needs
 
 fresh-requires : tie.Need-fresh-requires
 fresh-requires c κs = search needs
 
 returns : tie.Need-returns
-returns c = new-refused _ _ _ _ (c .before .before .refusal-in .result) _ _ _ (c .before .before .refusal-in .ensures) (c .before .before .before .before .new .ensures .0) (c .before .before .before .before .new .ensures .1) (c .before .if1 .taken) (c .fresh .ensures)
+returns c = new-refused _ _ _ _ (c .before .before .refusal-number .result) _ _ _ (c .before .before .refusal-number .ensures) (c .before .before .before .before .new .ensures .0) (c .before .before .before .before .new .ensures .1) (c .before .if1 .taken) (c .fresh .ensures)
 
 memory-refusal-requires : tie.Need-memory-refusal-requires
 memory-refusal-requires c κs = search needs
@@ -28,20 +28,20 @@ fresh-requires-2 : tie.Need-fresh-requires-2
 fresh-requires-2 c κs = search needs
 
 returns-2 : tie.Need-returns-2
-returns-2 c = new-short _ _ _ _ (c .before .before .before .before .before .refusal-in .result) _ _ _ (c .before .before .before .before .before .refusal-in .ensures) (c .before .before .before .before .before .before .before .new .ensures .0) (c .before .before .before .before .before .before .before .new .ensures .1) (c .before .before .before .before .if1 .left) (c .before .before .before .memory-refusal .result) (c .before .before .before .memory-refusal .ensures) (c .before .before .if2 .taken) (c .fresh2 .ensures ∙ ap (freshOf 0) (c .before .unopened .ensures))
+returns-2 c = new-short _ _ _ _ (c .before .before .before .before .before .refusal-number .result) _ _ _ (c .before .before .before .before .before .refusal-number .ensures) (c .before .before .before .before .before .before .before .new .ensures .0) (c .before .before .before .before .before .before .before .new .ensures .1) (c .before .before .before .before .if1 .left) (c .before .before .before .memory-refusal .result) (c .before .before .before .memory-refusal .ensures) (c .before .before .if2 .taken) (c .fresh2 .ensures ∙ ap (freshOf 0) (c .before .unopened .ensures))
 
 fresh-requires-3 : tie.Need-fresh-requires-3
 fresh-requires-3 c κs = search needs
 
 returns-3 : tie.Need-returns-3
-returns-3 c = new-done _ _ _ _ (c .before .before .before .before .refusal-in .result) _ _ _ (c .before .before .before .before .refusal-in .ensures) (c .before .before .before .before .before .before .new .ensures .0) (c .before .before .before .before .before .before .new .ensures .1) (c .before .before .before .if1 .left) (c .before .before .memory-refusal .result) (c .before .before .memory-refusal .ensures) (c .before .if2 .left) (c .fresh3 .ensures)
+returns-3 c = new-done _ _ _ _ (c .before .before .before .before .refusal-number .result) _ _ _ (c .before .before .before .before .refusal-number .ensures) (c .before .before .before .before .before .before .new .ensures .0) (c .before .before .before .before .before .before .new .ensures .1) (c .before .before .before .if1 .left) (c .before .before .memory-refusal .result) (c .before .before .memory-refusal .ensures) (c .before .if2 .left) (c .fresh3 .ensures)
 
 pub new-spec : {M : Type 1} → statement M
 new-spec =
     tie.close
     (tie.spec
     new-requires
-    refusal-in-requires
+    refusal-number-requires
     fresh-requires
     returns
     memory-refusal-requires

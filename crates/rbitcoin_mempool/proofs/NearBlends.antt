@@ -24,7 +24,7 @@ use Rattle.rbitcoin_mempool.specs.Exact.{InUnit, asFrac, weight, blend, 
 use Rattle.rbitcoin_mempool.proofs.Blend.{Blend, terms, blend-near}
 
 -- m is near v·a + (1-v)·b, and at most 2 ^ 50
-pub record Mixed (m : ℕ) (v : Float) (a b : ℕ) : Type 0 where
+pub record NearBlend (m : ℕ) (v : Float) (a b : ℕ) : Type 0 where
   pub near : Within 1 m (blend (weight v) (asFrac a) (asFrac b))
   pub top : m ≤ 2 ^ 50
 
@@ -34,9 +34,9 @@ over m p r q a b h = omega arith
 under : (m p r q a b : ℕ) → p * a + r * b < m * q + q → p * a * 1 + r * b * 1 < m * (q * (1 * 1)) + 1 * (q * (1 * 1))
 under m p r q a b h = omega arith
 
-mixed-of : (x : ℕ) (m : ℕ) (e : ℤ) (a b : ℕ) → Blend x (m * up e) (down e) a b → Mixed x (fin false m e) a b
+near-blend : (x : ℕ) (m : ℕ) (e : ℤ) (a b : ℕ) → Blend x (m * up e) (down e) a b → NearBlend x (fin false m e) a b
 unfolding blend
-mixed-of x m e a b h =
+near-blend x m e a b h =
     record {
       near = record {
         pos = mul-pos (down-pos e) (lit< tt);
@@ -46,11 +46,11 @@ mixed-of x m e a b h =
       top = h .top;
     }
 
-pub blended-near : (v : Float) (a b : ℕ) → UpTo 1 1 v → a ≤ 2 ^ 50 → b ≤ 2 ^ 50 → Mixed (blended v a b) v a b
+pub blended-near : (v : Float) (a b : ℕ) → UpTo 1 1 v → a ≤ 2 ^ 50 → b ≤ 2 ^ 50 → NearBlend (blended v a b) v a b
 blended-near nan a b u A B = absurd u
 blended-near (inf s) a b u A B = absurd u
 blended-near (fin true m e) a b u A B = absurd u
-blended-near (fin false m e) a b u A B = mixed-of _ m e a b (blend-near (fin false m e) (m * up e) (down e) a b (down-pos e) (omega arith) (refl, refl) A B)
+blended-near (fin false m e) a b u A B = near-blend _ m e a b (blend-near (fin false m e) (m * up e) (down e) a b (down-pos e) (omega arith) (refl, refl) A B)
 
 -- ---- with the terms in the other order
 swapped : (x y : Float) (X Y : ℕ) → HasValue x false X unit → HasValue y false Y unit → add binary64 y x ≡ add binary64 x y
@@ -109,13 +109,13 @@ second-only m e a b z A B =
     let L : b ≤ 2 ^ 53 = le-trans B (lit≤ tt) in
     ap roundToU64 x ∙ round-value _ b 1 (lit< tt) (plus-zero (mul binary64 one64 (ofU64 b)) b L (one-times b L)) ∙ nearest-is b B
 
-pub warmed-near : (v : Float) (a b : ℕ) → InUnit v → a ≤ 2 ^ 50 → b ≤ 2 ^ 50 → Mixed (warmed v b a) v a b
+pub warmed-near : (v : Float) (a b : ℕ) → InUnit v → a ≤ 2 ^ 50 → b ≤ 2 ^ 50 → NearBlend (warmed v b a) v a b
 unfolding blend
 warmed-near nan a b u A B = absurd u
 warmed-near (inf s) a b u A B = absurd u
 warmed-near (fin false m e) a b u A B =
-    subst (λ (x : ℕ). Mixed x (fin false m e) a b) (sym (other-order (fin false m e) (m * up e) (down e) a b (down-pos e) u (refl, refl) A B))
-    (mixed-of _ m e a b (blend-near (fin false m e) (m * up e) (down e) a b (down-pos e) u (refl, refl) A B))
+    subst (λ (x : ℕ). NearBlend x (fin false m e) a b) (sym (other-order (fin false m e) (m * up e) (down e) a b (down-pos e) u (refl, refl) A B))
+    (near-blend _ m e a b (blend-near (fin false m e) (m * up e) (down e) a b (down-pos e) u (refl, refl) A B))
 warmed-near (fin true m e) a b u A B =
-    subst (λ (x : ℕ). Mixed x (fin true m e) a b) (sym (second-only m e a b u A B))
+    subst (λ (x : ℕ). NearBlend x (fin true m e) a b) (sym (second-only m e a b u A B))
     (record { near = record { pos = lit< tt; over = omega arith; under = omega arith }; top = B })

@@ -1,11 +1,11 @@
--- `fee_analog::quantile::between` meets its contract. Assumes nothing.
+-- `fee_analog::quantile::between_neighbors` meets its contract. Assumes nothing.
 use borrow.Author.Needs.{needs}
 use mathlib.Core.Path.{sym, ap, _∙_}
 use lib.Ieee.{binary64, sub}
 use borrow.Author.Tests.{eq-eqb, ne-eqb}
 use Rattle.rbitcoin_mempool.specs.Quantile.{blendOf, betweenNeighbors}
-use Rattle.rbitcoin_mempool.proofs.fee_analog.quantile.between.Statement.{statement}
-use Rattle.rbitcoin_mempool.proofs.fee_analog.quantile.between.Tie as tie
+use Rattle.rbitcoin_mempool.proofs.fee_analog.quantile.between_neighbors.Statement.{statement}
+use Rattle.rbitcoin_mempool.proofs.fee_analog.quantile.between_neighbors.Tie as tie
 
 returns : tie.Need-returns
 unfolding betweenNeighbors
@@ -25,5 +25,5 @@ returns-2 c =
     ∙ ap (λ f. blendOf (a .a) (a .b) (sub binary64 (a .rank) f)) (c .before .floor .ensures)
     ∙ sym (rw (ne-eqb (a .a) (a .b) (c .before .before .if1 .left)))
 
-pub between-spec : {M : Type 1} → statement M
-between-spec = tie.close (tie.spec returns floor-requires blend-requires returns-2)
+pub between-neighbors-spec : {M : Type 1} → statement M
+between-neighbors-spec = tie.close (tie.spec returns floor-requires blend-requires returns-2)

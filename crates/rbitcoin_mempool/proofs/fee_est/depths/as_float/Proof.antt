@@ -1,9 +1,9 @@
--- `fee_est::depths::float_of` meets its contract. Assumes nothing.
+-- `fee_est::depths::as_float` meets its contract. Assumes nothing.
 use borrow.Author.Needs.{needs}
 use lib.Ieee.{ofBits}
 use Rattle.num.proofs.WholeSum.{bits-number, bits-float}
-use Rattle.rbitcoin_mempool.proofs.fee_est.depths.float_of.Statement.{statement}
-use Rattle.rbitcoin_mempool.proofs.fee_est.depths.float_of.Tie as tie
+use Rattle.rbitcoin_mempool.proofs.fee_est.depths.as_float.Statement.{statement}
+use Rattle.rbitcoin_mempool.proofs.fee_est.depths.as_float.Tie as tie
 
 add-result : tie.Need-add-result
 add-result c = search needs
@@ -15,5 +15,5 @@ returns : tie.Need-returns
 unfolding ofBits
 returns c = bits-float (c .args .n) (c .pre)
 
-pub float-of-spec : {M : Type 1} → statement M
-float-of-spec = tie.close (tie.spec add-result float-from-bits-result returns)
+pub as-float-spec : {M : Type 1} → statement M
+as-float-spec = tie.close (tie.spec add-result float-from-bits-result returns)
