@@ -9,6 +9,7 @@ pub mod Bracket
 pub mod Shares
 pub mod Swaps
 pub mod Sinking
+pub mod Quads
 pub mod Parting
 pub mod Halves
 pub mod Least

@@ -3,4 +3,5 @@ pub mod Every
 pub mod Lists
 pub mod Search
 pub mod Sorted
+pub mod Quads
 pub mod Least

@@ -4,7 +4,7 @@ ghost use mathlib.Core.Path.{_≡_};
 ghost use Prim.Native.Nat.{_≤_, _<_, min, max};
 ghost use lib.Dec.{leb};
 ghost use lib.ListN.{length, getD, take, drop};
-ghost use Rattle.slices.specs.Sorted.{sorted, atMost, inRange, Most};
+ghost use Rattle.slices.specs.Sorted.{sorted, atMost, inRange};
 ghost use Rattle.slices.specs.Least.{leastOf};
 use super::moves::copy_front;
 use super::sort::select_nth;
@@ -67,22 +67,6 @@ pub fn least_of(xs: &[u64]) -> u64
         i += 4;
     }
     least_from(xs, i, smaller(smaller(a, b), smaller(c, d)))
-}
-
-// A bound from above.
-pub(crate) fn greatest(xs: &[u64]) -> u64
-    ensures { λ r. ⌜ Most r (now (xs .entry)) ⌝ }
-{
-    let mut m = 0;
-    let mut i = 0;
-    while i < xs.len() {
-        let x = xs[i];
-        if m < x {
-            m = x;
-        }
-        i += 1;
-    }
-    m
 }
 
 // Whether x lies from lo to hi, by one comparison: of its distance from lo, modulo 2^64.
