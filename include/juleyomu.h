@@ -32,7 +32,9 @@ extern "C" {
 /* ---- Refusals ---- */
 
 #define JULEYOMU_DONE 0
-/* Lists that belong together differ in length. Asked first. */
+/* Lists that belong together differ in length: candidates and stock, the numbers and marks of one list of
+ * rates, the lists of the loop over depths, output numbers and marks. Asked first. The history's own rows
+ * are judged by 5 alone. */
 #define JULEYOMU_REFUSAL_LENGTHS 1
 /* A depth is less than the one before it. Asked after JULEYOMU_REFUSAL_MARK. */
 #define JULEYOMU_REFUSAL_DEPTHS 2
@@ -293,9 +295,9 @@ JuleyomuUpdateFields juleyomu_windows_rebuild(JuleyomuAnalogHistory state, const
 /* How many pairs a target of n blocks has; 0 for a target that is not tracked. Refuses 3, 5. */
 JuleyomuCountFields juleyomu_windows_pairs(JuleyomuAnalogHistory state, uint32_t n);
 
-/* The rate (sat/kvB) that a share `confidence` of the windows like now asked for within n blocks; no rate
+/* The quantile `confidence`, in logarithms, of what the windows like now asked for within n blocks; no rate
  * under 2,000 pairs, for a target that is not tracked, or where `confidence` is NaN or outside 0 to 1.
- * `scratch` has `capacity` places, which may be overwritten where there is a rate. Refuses 3, 5. */
+ * `scratch` has at least `capacity` places; all of it may be overwritten where there is a rate. Refuses 3, 5. */
 JuleyomuRateFields juleyomu_windows_rate_sat_kvb(JuleyomuAnalogHistory state, uint32_t n,
                                                  double confidence, const uint64_t *hurdles,
                                                  size_t hurdles_len, const double *befores,
@@ -352,8 +354,8 @@ JuleyomuHistoryFields juleyomu_history_truncate_above(
     const uint8_t *hash_bytes, size_t hash_bytes_len);
 
 /* The historical rate (sat/kvB) for each target, in their order; missing while a target has under 2,000
- * pairs. `scratch` has `capacity` places, which may be overwritten where there is a rate. Refuses 1 (output
- * numbers and marks), 3, 5. */
+ * pairs. `scratch` has at least `capacity` places; all of it may be overwritten where there is a rate.
+ * Refuses 1 (output numbers and marks), 3, 5. */
 JuleyomuHistoryFields juleyomu_history_rates(JuleyomuFeeHistory state, const uint32_t *heights,
                                              size_t heights_len, const uint8_t *marks, size_t marks_len,
                                              const uint64_t *rates, size_t rates_len,
@@ -398,11 +400,13 @@ JuleyomuMarkedRate juleyomu_blend_sat_kvb(JuleyomuMarkedRate flow, JuleyomuMarke
 JuleyomuMarkedRate juleyomu_warmup_blend(double alpha, JuleyomuMarkedRate cold,
                                          JuleyomuMarkedRate warm);
 
-/* The rate at n blocks, cold (history, raised by the frontier) or warm (flow blended with history). */
+/* The rate at n blocks, cold (history, raised by the frontier) or warm (flow blended with history; up to one
+ * block the flow, and history where it is missing). */
 JuleyomuMarkedRate juleyomu_depth_rate_sat_kvb(uint32_t n, bool flow_warm, JuleyomuMarkedRate flow,
                                                JuleyomuMarkedRate frontier, JuleyomuMarkedRate hist);
 
-/* The published rate at n blocks: cold and warm blended by the share; confirm is a floor at one block. */
+/* The published rate at n blocks: cold and warm blended by the share; up to one block, with a finite share
+ * above 0, confirm is a floor of the warm one. */
 JuleyomuMarkedRate juleyomu_published_depth_rate(uint32_t n, double alpha, JuleyomuMarkedRate flow,
                                                  JuleyomuMarkedRate frontier, JuleyomuMarkedRate hist,
                                                  JuleyomuMarkedRate confirm);

@@ -1,4 +1,4 @@
-//! Who is sent away, and why.
+//! The refusals, and what each is for.
 
 use std::error::Error;
 use std::fmt;

@@ -125,7 +125,7 @@ fn bad_counts() {
     answer(b"T4\n");
 }
 
-// Lines that are well-formed and come too late.
+// Lines past a limit, out of order or after a bad line, and inputs just within the limits.
 fn bad_order() {
     answer(b"D 2 3\nT 2\nD 4 1\n");
     answer(b"T 2\nT 3\nD 2 3\nX\n");

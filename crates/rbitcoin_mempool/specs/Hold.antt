@@ -87,7 +87,7 @@ depthRates a = holdDefinedThenMonotone (tabulate (publishedAt a) 0 (length (a .d
 unfoldable pub neverDescends : List ℕ → Bool
 neverDescends ds = every (λ i. leb (getD ds i 0) (getD ds (suc i) 0)) (length ds - 1)
 
--- refusal 1: the lists are not of one length, the output's number and marks among them; then 8: an input mark; then 2: a depth
+-- refusal 1: the lists are not of one length, the output's numbers and marks among them; then 8: an input mark; then 2: a depth
 abbrev pub bothHave : List ℕ → List ℕ → ℕ → Bool
 bothHave numbers marks n = eqb (length numbers) n && eqb (length marks) n
 

@@ -113,7 +113,7 @@ lentRefusal s m =
     (orElse (hashesRefusal (length (m .hashes .heights)) (length (m .hashes .bytes)))
     (windowsSizeRefusal (s .analog) (length (m .hurdles)) (length (m .befores)) (length (m .aheads))))
 
--- what an opening leaves and each call keeps: heights ascend, the stored pairs are those of the hurdles, and unless stale the hurdles are the held rates in height order
+-- what an opening leaves and each call keeps: the memory serves, heights and kept hashes ascend, the stored pairs are those of the hurdles, and unless stale the hurdles are the held rates in height order
 pub record Sound (s : FeeHistory) (m : Lent) : Type 0 where
   pub lent : lentRefusal s m ≡ 0
   pub ascends : Ascends (heldRows (m .rows) s)

@@ -49,7 +49,7 @@ use slices::moves::copy_front;
 use slices::moves::copy_front_u8;
 use slices::moves::copy_front_u32;
 
-// Newest heights whose block hash is kept to validate the history file.
+// How many block hashes are kept: those of the newest heights that have one.
 pub const RECENT_HASHES: usize = 144;
 
 // A held block: its byte count, and its rate, which is there with its number or missing.

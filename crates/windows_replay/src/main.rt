@@ -164,7 +164,7 @@ fn is_pair(start: usize, lookback: usize, pairs: usize, i: usize) -> bool {
     t - lookback < pairs
 }
 
-// The pairs of one target, in its region of 24 places. A logarithm of at least 1 has no sign.
+// The pairs of one target, in its region of 24 places. The logarithm of a number of at least 1 has no sign.
 fn pairs_digest(digest: u64, s: AnalogHistory, n: u32, befores: &[f64], aheads: &[u64]) -> u64 {
     let pairs = count_of(s.pairs(n));
     let lookback = fee_analog::analog_lookback(n);

@@ -268,8 +268,7 @@ impl AnalogHistory {
         CountAnswer::Count(0)
     }
 
-    // Lowest rate (sat/kvB) at or above the window hurdle in a `confidence` share of the windows that looked like now.
-    // None before the target holds `ANALOG_READY_PAIRS` pairs. A scan that answers with a rate leaves `scratch` open.
+    // The quantile at `confidence`, in logarithms, of the hurdles (sat/kvB) of the windows that looked like now. None before the target holds `ANALOG_READY_PAIRS` pairs. A scan that answers with a rate leaves `scratch` open.
     pub fn rate_sat_kvb(
         self,
         n_blocks: u32,
