@@ -4,12 +4,12 @@ use mathlib.Core.Path.{_≡_, refl, ap, sym, _∙_}
 use Rattle.rbitcoin_mempool.specs.declared.answer.Outcome.{Outcome}
 use Rattle.rbitcoin_mempool.specs.declared.answer.Outcome.the-variants.{Done, Refused}
 use Rattle.rbitcoin_mempool.specs.Outcome.{Verdict, verdict, verdictNumber, verdictOf}
-use Rattle.rbitcoin_mempool.specs.Rates.{refusalNumber, numberOf}
+use Rattle.rbitcoin_mempool.specs.Rates.{refusedWith, numberOf}
 use Rattle.rbitcoin_mempool.specs.Counted.{Counted, countedOf}
 use Rattle.exports.specs.Counts.{countRefusal, countNumber}
 
 -- the number of an outcome, by its verdict and by the refusal that may be there
-pub number-same : (o : Outcome) → verdictNumber (verdict o) ≡ numberOf (refusalNumber o)
+pub number-same : (o : Outcome) → verdictNumber (verdict o) ≡ numberOf (refusedWith o)
 number-same Done = refl
 number-same (Refused k) = refl
 

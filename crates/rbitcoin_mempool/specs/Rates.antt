@@ -19,8 +19,8 @@ abbrev pub given : Rate → Option ℕ
 given (There r) = some r
 given Missing = none
 
-abbrev pub refusalNumber : Outcome → Option ℕ
-refusalNumber o = refusalIn (verdict o)
+abbrev pub refusedWith : Outcome → Option ℕ
+refusedWith o = refusalIn (verdict o)
 
 abbrev pub asAnswer : Option ℕ → Answer
 asAnswer (some r) = rate r

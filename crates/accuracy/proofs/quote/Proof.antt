@@ -7,7 +7,7 @@ use mathlib.Core.List.{List}
 use Prim.Native.Nat.{ℕ, _^_, _<_}
 use lib.ListN.{length, getD}
 use Rattle.rbitcoin_mempool.specs.Answer.{Answer, refusal}
-use Rattle.rbitcoin_mempool.specs.Rates.{given, refusalNumber}
+use Rattle.rbitcoin_mempool.specs.Rates.{given, refusedWith}
 use Rattle.rbitcoin_mempool.specs.Hold.{Args, argsOf, loopRefusal, loopNumbers, loopMarks}
 use Rattle.rbitcoin_mempool.specs.Target.{feeAtTargetSatKvb}
 use Rattle.rbitcoin_mempool.specs.Demand3.{Demand3}
@@ -56,7 +56,7 @@ returns c =
     let a = k .before .args in
     let l = p .published-depth-rates in
     ran (argsOf (a .depths .now) (a .projected .now) (a .projected-marks .now) (a .frontier .now) (a .frontier-marks .now) (a .history .now) (a .history-marks .now) (given (a .confirm)) (a .alpha)) (a .out .now) (a .out-marks .now)
-    (l .last .1 .1 .1 .1 .1 .1 .1 .1 .1 .0) (l .last .1 .1 .1 .1 .1 .1 .1 .1 .1 .1 .0) (a .target) _ none (sym (ap refusalNumber (c .before .before .before .enum-told .given .1)) ∙ l .ensures .0) (c .fee-at-target-sat-kvb .ensures) (l .ensures .1) (λ i h. omega (arith, k .shared-slice-known .given i))
+    (l .last .1 .1 .1 .1 .1 .1 .1 .1 .1 .0) (l .last .1 .1 .1 .1 .1 .1 .1 .1 .1 .1 .0) (a .target) _ none (sym (ap refusedWith (c .before .before .before .enum-told .given .1)) ∙ l .ensures .0) (c .fee-at-target-sat-kvb .ensures) (l .ensures .1) (λ i h. omega (arith, k .shared-slice-known .given i))
 
 same-length-3 : tie.Need-same-length-3
 same-length-3 c = search needs
@@ -72,7 +72,7 @@ returns-2 c =
     let l = p .published-depth-rates in
     let o = c .before .outcome .given in
     ran (argsOf (a .depths .now) (a .projected .now) (a .projected-marks .now) (a .frontier .now) (a .frontier-marks .now) (a .history .now) (a .history-marks .now) (given (a .confirm)) (a .alpha)) (a .out .now) (a .out-marks .now)
-    (l .last .1 .1 .1 .1 .1 .1 .1 .1 .1 .0) (l .last .1 .1 .1 .1 .1 .1 .1 .1 .1 .1 .0) (a .target) (refusal (o .0 .0)) (some (o .0 .0)) (sym (ap refusalNumber (o .1)) ∙ l .ensures .0) refl (l .ensures .1) (λ i h. omega (arith, k .shared-slice-known .given i))
+    (l .last .1 .1 .1 .1 .1 .1 .1 .1 .1 .0) (l .last .1 .1 .1 .1 .1 .1 .1 .1 .1 .1 .0) (a .target) (refusal (o .0 .0)) (some (o .0 .0)) (sym (ap refusedWith (o .1)) ∙ l .ensures .0) refl (l .ensures .1) (λ i h. omega (arith, k .shared-slice-known .given i))
 
 pub quote-spec : {M : Type 1} → statement M
 quote-spec =

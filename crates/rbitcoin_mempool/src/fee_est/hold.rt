@@ -4,7 +4,7 @@ ghost use mathlib.Core.Path.{_≡_};
 ghost use mathlib.Core.Bool.{true, cond};
 ghost use Prim.Native.Nat.{min, _<_};
 ghost use lib.ListN.{length};
-ghost use Rattle.rbitcoin_mempool.specs.Rates.{given, refusalNumber, rateAt, ratesOf, marksValid, marksOf, numbersOver};
+ghost use Rattle.rbitcoin_mempool.specs.Rates.{given, refusedWith, rateAt, ratesOf, marksValid, marksOf, numbersOver};
 ghost use Rattle.rbitcoin_mempool.specs.Hold.{enforceMonotoneDesc, holdDefinedThenMonotone, holdRefusal, heldNumbers, heldMarks, neverDescends};
 use crate::answer::Outcome;
 use crate::answer::Rate;
@@ -102,7 +102,7 @@ pub(crate) fn hold_all(numbers: &mut [u64], marks: &mut [u8])
 // length, then 8 for another mark; the lists are left as found. What stands under a mark that stays
 // 0 is left.
 pub fn hold_defined_then_monotone(rates: &mut [u64], marks: &mut [u8]) -> Outcome
-    ensures { λ r. ⌜ refusalNumber r ≡ holdRefusal (now (rates .entry)) (now (marks .entry)) ⌝ }
+    ensures { λ r. ⌜ refusedWith r ≡ holdRefusal (now (rates .entry)) (now (marks .entry)) ⌝ }
     ensures { λ _. ⌜ now (rates .exit) ≡ heldNumbers (now (rates .entry)) (now (marks .entry)) ⌝ }
     ensures { λ _. ⌜ now (marks .exit) ≡ heldMarks (now (rates .entry)) (now (marks .entry)) ⌝ }
 {

@@ -6,7 +6,7 @@ ghost use Prim.Native.Nat.{_<_};
 ghost use lib.Dec.{eqb};
 ghost use lib.ListN.{length};
 ghost use Rattle.slices.specs.Lists.{tabulate};
-ghost use Rattle.rbitcoin_mempool.specs.Rates.{given, refusalNumber, marksValid, numberOf, markOf, numbersOf, marksOf};
+ghost use Rattle.rbitcoin_mempool.specs.Rates.{given, refusedWith, marksValid, numberOf, markOf, numbersOf, marksOf};
 ghost use Rattle.rbitcoin_mempool.specs.Hold.{argsOf, publishedAt, depthRates, sameLengths, loopRefusal, loopNumbers, loopMarks};
 use super::depths::flow_for_depth;
 use super::depths::published_depth_rate;
@@ -166,7 +166,7 @@ fn refusal_of(
     out: usize,
     out_marks: usize,
 ) -> Outcome
-    ensures { λ r. ⌜ refusalNumber r ≡ loopRefusal (argsOf (now (depths .entry)) (now (projected .entry)) (now («projected_marks» .entry)) (now (frontier .entry)) (now («frontier_marks» .entry)) (now (history .entry)) (now («history_marks» .entry)) (given confirm) alpha) out «out_marks» ⌝ }
+    ensures { λ r. ⌜ refusedWith r ≡ loopRefusal (argsOf (now (depths .entry)) (now (projected .entry)) (now («projected_marks» .entry)) (now (frontier .entry)) (now («frontier_marks» .entry)) (now (history .entry)) (now («history_marks» .entry)) (given confirm) alpha) out «out_marks» ⌝ }
 {
     if !lengths_agree(
         depths,
@@ -242,7 +242,7 @@ pub fn published_depth_rates(
     out: &mut [u64],
     out_marks: &mut [u8],
 ) -> Outcome
-    ensures { λ r. ⌜ refusalNumber r ≡ loopRefusal (argsOf (now (depths .entry)) (now (projected .entry)) (now («projected_marks» .entry)) (now (frontier .entry)) (now («frontier_marks» .entry)) (now (history .entry)) (now («history_marks» .entry)) (given confirm) alpha) (length (now (out .entry))) (length (now («out_marks» .entry))) ⌝ }
+    ensures { λ r. ⌜ refusedWith r ≡ loopRefusal (argsOf (now (depths .entry)) (now (projected .entry)) (now («projected_marks» .entry)) (now (frontier .entry)) (now («frontier_marks» .entry)) (now (history .entry)) (now («history_marks» .entry)) (given confirm) alpha) (length (now (out .entry))) (length (now («out_marks» .entry))) ⌝ }
     ensures { λ _. ⌜ now (out .exit) ≡ loopNumbers (argsOf (now (depths .entry)) (now (projected .entry)) (now («projected_marks» .entry)) (now (frontier .entry)) (now («frontier_marks» .entry)) (now (history .entry)) (now («history_marks» .entry)) (given confirm) alpha) (now (out .entry)) (now («out_marks» .entry)) ⌝ }
     ensures { λ _. ⌜ now («out_marks» .exit) ≡ loopMarks (argsOf (now (depths .entry)) (now (projected .entry)) (now («projected_marks» .entry)) (now (frontier .entry)) (now («frontier_marks» .entry)) (now (history .entry)) (now («history_marks» .entry)) (given confirm) alpha) (now (out .entry)) (now («out_marks» .entry)) ⌝ }
 {

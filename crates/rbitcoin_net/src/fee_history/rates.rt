@@ -14,8 +14,8 @@ ghost use Rattle.rbitcoin_net.specs.Lent.{rows, rowAt, heldRows};
 ghost use Rattle.rbitcoin_net.specs.Rates.{rated, refreshed, refreshedIn, rateFrom, slots, ratesIn, answersIn};
 use super::FeeHistory;
 use super::inserts::push_newest;
-use super::readers::mark_of;
-use super::readers::number_of;
+use super::readers::stored_mark;
+use super::readers::stored_number;
 use super::search::rate_of;
 use rbitcoin_mempool::answer::RateAnswer;
 use rbitcoin_mempool::fee_analog::AnalogHistory;
@@ -181,8 +181,8 @@ pub(crate) fn put_answers(s: FeeHistory, numbers: &mut [u64], marks: &mut [u8])
     let n = analog.tracked;
     let mut i = 0;
     while i < n {
-        numbers[i] = number_of(s.kept_marks[i], s.kept_numbers[i]);
-        marks[i] = mark_of(s.kept_marks[i]);
+        numbers[i] = stored_number(s.kept_marks[i], s.kept_numbers[i]);
+        marks[i] = stored_mark(s.kept_marks[i]);
         i += 1;
     }
 }

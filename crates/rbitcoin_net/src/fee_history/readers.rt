@@ -8,14 +8,14 @@ ghost use lib.ListN.{length, getD, drop};
 ghost use Rattle.slices.specs.Lists.{tabulate};
 
 // A stored mark as an answer's: 1 where it is 1, and 0.
-pub(crate) fn mark_of(mark: u8) -> u8
+pub(crate) fn stored_mark(mark: u8) -> u8
     ensures { λ r. ⌜ r ≡ cond (eqb mark 1) 1 0 ⌝ }
 {
     if mark == 1 { 1 } else { 0 }
 }
 
 // A stored number as an answer's: 0 where its mark is not 1.
-pub(crate) fn number_of(mark: u8, number: u64) -> u64
+pub(crate) fn stored_number(mark: u8, number: u64) -> u64
     ensures { λ r. ⌜ r ≡ cond (eqb mark 1) number 0 ⌝ }
 {
     if mark == 1 { number } else { 0 }
@@ -28,7 +28,7 @@ pub(crate) fn put_marks(out: &mut [u8], marks: &[u8], start: usize, n: usize)
 {
     let mut i = 0;
     while i < n {
-        out[i] = mark_of(marks[start + i]);
+        out[i] = stored_mark(marks[start + i]);
         i += 1;
     }
 }
@@ -40,7 +40,7 @@ pub(crate) fn put_rates(out: &mut [u64], marks: &[u8], rates: &[u64], start: usi
 {
     let mut i = 0;
     while i < n {
-        out[i] = number_of(marks[start + i], rates[start + i]);
+        out[i] = stored_number(marks[start + i], rates[start + i]);
         i += 1;
     }
 }

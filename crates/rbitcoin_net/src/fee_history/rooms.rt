@@ -78,7 +78,7 @@ fn open_u64(xs: &mut [u64], from: usize, to: usize, q: usize, r: usize, v: u64)
     xs[to + q] = v;
 }
 
-fn mark_in(rate: Rate) -> u8
+fn mark_of(rate: Rate) -> u8
     ensures { λ r. ⌜ r ≡ markOf (given rate) ⌝ }
 {
     match rate {
@@ -87,7 +87,7 @@ fn mark_in(rate: Rate) -> u8
     }
 }
 
-fn number_in(rate: Rate) -> u64
+fn number_of(rate: Rate) -> u64
     ensures { λ r. ⌜ r ≡ numberOf (given rate) ⌝ }
 {
     match rate {
@@ -115,8 +115,8 @@ pub(crate) fn hold_at(
     let behind = s.count - q;
     let rate = block.p10_sat_kvb;
     open_u32(heights, from, to, q, behind, height);
-    open_u8(marks, from, to, q, behind, mark_in(rate));
-    open_u64(rates, from, to, q, behind, number_in(rate));
+    open_u8(marks, from, to, q, behind, mark_of(rate));
+    open_u64(rates, from, to, q, behind, number_of(rate));
     open_u64(sizes, from, to, q, behind, block.txstat_bytes);
     let mut t = s;
     t.start = to;

@@ -29,17 +29,17 @@ abbrev μ-loop : tie.MeasureT-loop
 loop-holds : tie.Need-loop-holds Inv-loop μ-loop
 loop-holds c = (omega arith, (refl, (refl, (refl, (refl, refl)))))
 
-element-copy-out-number-of : tie.Need-element-copy-out-number-of Inv-loop μ-loop
-element-copy-out-number-of c = search needs
+element-copy-out-stored-number : tie.Need-element-copy-out-stored-number Inv-loop μ-loop
+element-copy-out-stored-number c = search needs
 
-mul-number-of : tie.Need-mul-number-of Inv-loop μ-loop
-mul-number-of c = search needs
+mul-stored-number : tie.Need-mul-stored-number Inv-loop μ-loop
+mul-stored-number c = search needs
 
-element-copy-out-number-of-2 : tie.Need-element-copy-out-number-of-2 Inv-loop μ-loop
-element-copy-out-number-of-2 c = search needs
+element-copy-out-stored-number-2 : tie.Need-element-copy-out-stored-number-2 Inv-loop μ-loop
+element-copy-out-stored-number-2 c = search needs
 
-number-of-requires : tie.Need-number-of-requires Inv-loop μ-loop
-number-of-requires c κs = search needs
+stored-number-requires : tie.Need-stored-number-requires Inv-loop μ-loop
+stored-number-requires c κs = search needs
 
 mul-numbers : tie.Need-mul-numbers Inv-loop μ-loop
 mul-numbers c = search needs
@@ -47,11 +47,11 @@ mul-numbers c = search needs
 slice-write-numbers : tie.Need-slice-write-numbers Inv-loop μ-loop
 slice-write-numbers c = search needs
 
-element-copy-out-mark-of : tie.Need-element-copy-out-mark-of Inv-loop μ-loop
-element-copy-out-mark-of c = search needs
+element-copy-out-stored-mark : tie.Need-element-copy-out-stored-mark Inv-loop μ-loop
+element-copy-out-stored-mark c = search needs
 
-mark-of-requires : tie.Need-mark-of-requires Inv-loop μ-loop
-mark-of-requires c κs = search needs
+stored-mark-requires : tie.Need-stored-mark-requires Inv-loop μ-loop
+stored-mark-requires c κs = search needs
 
 slice-write-marks : tie.Need-slice-write-marks Inv-loop μ-loop
 slice-write-marks c = search needs
@@ -78,8 +78,8 @@ loop-again c =
           (
             simp length-set (v .1 .1 .1 .0),
             (
-              table-turn (λ k. cond (eqb (getD (a .t1 .«kept_marks») k 0) 1) (getD (a .t1 .«kept_numbers») k 0) 0) 0 n (now (a .numbers)) (omega arith) (l .loop .numbers) (l .loop .i) _ (omega arith) (c .before .before .number-of .ensures ∙ ap (λ k. cond (eqb (getD (a .t1 .«kept_marks») k 0) 1) (getD (a .t1 .«kept_numbers») k 0) 0) z) (v .1 .1 .1 .1 .0),
-              table-turn (λ k. cond (eqb (getD (a .t1 .«kept_marks») k 0) 1) 1 0) 0 n (now (a .marks)) (omega arith) (l .loop .marks) (l .loop .i) _ (omega arith) (c .mark-of .ensures ∙ ap (λ k. cond {A = ℕ} (eqb (getD (a .t1 .«kept_marks») k 0) 1) 1 0) z) (v .1 .1 .1 .1 .1),
+              table-turn (λ k. cond (eqb (getD (a .t1 .«kept_marks») k 0) 1) (getD (a .t1 .«kept_numbers») k 0) 0) 0 n (now (a .numbers)) (omega arith) (l .loop .numbers) (l .loop .i) _ (omega arith) (c .before .before .stored-number .ensures ∙ ap (λ k. cond (eqb (getD (a .t1 .«kept_marks») k 0) 1) (getD (a .t1 .«kept_numbers») k 0) 0) z) (v .1 .1 .1 .1 .0),
+              table-turn (λ k. cond (eqb (getD (a .t1 .«kept_marks») k 0) 1) 1 0) 0 n (now (a .marks)) (omega arith) (l .loop .marks) (l .loop .i) _ (omega arith) (c .stored-mark .ensures ∙ ap (λ k. cond {A = ℕ} (eqb (getD (a .t1 .«kept_marks») k 0) 1) 1 0) z) (v .1 .1 .1 .1 .1),
             ),
           ),
         ),
@@ -112,14 +112,14 @@ put-answers-spec =
     Inv-loop
     μ-loop
     loop-holds
-    element-copy-out-number-of
-    mul-number-of
-    element-copy-out-number-of-2
-    number-of-requires
+    element-copy-out-stored-number
+    mul-stored-number
+    element-copy-out-stored-number-2
+    stored-number-requires
     mul-numbers
     slice-write-numbers
-    element-copy-out-mark-of
-    mark-of-requires
+    element-copy-out-stored-mark
+    stored-mark-requires
     slice-write-marks
     add-i
     loop-less

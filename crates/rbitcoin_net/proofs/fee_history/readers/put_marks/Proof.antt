@@ -21,14 +21,14 @@ abbrev μ-loop : tie.MeasureT-loop
 loop-holds : tie.Need-loop-holds Inv-loop μ-loop
 loop-holds c = (omega arith, refl, refl)
 
-add-mark-of : tie.Need-add-mark-of Inv-loop μ-loop
-add-mark-of c = search needs
+add-stored-mark : tie.Need-add-stored-mark Inv-loop μ-loop
+add-stored-mark c = search needs
 
-shared-slice-read-mark-of : tie.Need-shared-slice-read-mark-of Inv-loop μ-loop
-shared-slice-read-mark-of c = search needs
+shared-slice-read-stored-mark : tie.Need-shared-slice-read-stored-mark Inv-loop μ-loop
+shared-slice-read-stored-mark c = search needs
 
-mark-of-requires : tie.Need-mark-of-requires Inv-loop μ-loop
-mark-of-requires c κs = search needs
+stored-mark-requires : tie.Need-stored-mark-requires Inv-loop μ-loop
+stored-mark-requires c κs = search needs
 
 slice-write-out : tie.Need-slice-write-out Inv-loop μ-loop
 slice-write-out c = search needs
@@ -44,7 +44,7 @@ loop-again c =
     let l = c .before .before .before in
     let s = l .before .before .before in
     let a = s .args in
-    (omega arith, simp length-set (l .loop .inv .1), table-turn (λ k. cond (eqb (getD (a .marks .now) k 0) 1) 1 0) (a .start) (a .n) (a .out .now) (s .pre .1) (l .loop .out) (l .loop .i) _ (omega arith) (c .mark-of .ensures) (l .loop .inv .2))
+    (omega arith, simp length-set (l .loop .inv .1), table-turn (λ k. cond (eqb (getD (a .marks .now) k 0) 1) 1 0) (a .start) (a .n) (a .out .now) (s .pre .1) (l .loop .out) (l .loop .i) _ (omega arith) (c .stored-mark .ensures) (l .loop .inv .2))
 
 same-length : tie.Need-same-length Inv-loop μ-loop
 same-length c = c .before .loop .inv .1
@@ -63,9 +63,9 @@ put-marks-spec =
     Inv-loop
     μ-loop
     loop-holds
-    add-mark-of
-    shared-slice-read-mark-of
-    mark-of-requires
+    add-stored-mark
+    shared-slice-read-stored-mark
+    stored-mark-requires
     slice-write-out
     add-i
     loop-less

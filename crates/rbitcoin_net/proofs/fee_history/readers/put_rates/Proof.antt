@@ -21,23 +21,23 @@ abbrev μ-loop : tie.MeasureT-loop
 loop-holds : tie.Need-loop-holds Inv-loop μ-loop
 loop-holds c = (omega arith, refl, refl)
 
-add-number-of : tie.Need-add-number-of Inv-loop μ-loop
-add-number-of c = search needs
+add-stored-number : tie.Need-add-stored-number Inv-loop μ-loop
+add-stored-number c = search needs
 
-shared-slice-read-number-of : tie.Need-shared-slice-read-number-of Inv-loop μ-loop
-shared-slice-read-number-of c = search needs
+shared-slice-read-stored-number : tie.Need-shared-slice-read-stored-number Inv-loop μ-loop
+shared-slice-read-stored-number c = search needs
 
-add-number-of-2 : tie.Need-add-number-of-2 Inv-loop μ-loop
-add-number-of-2 c = search needs
+add-stored-number-2 : tie.Need-add-stored-number-2 Inv-loop μ-loop
+add-stored-number-2 c = search needs
 
-mul-number-of : tie.Need-mul-number-of Inv-loop μ-loop
-mul-number-of c = search needs
+mul-stored-number : tie.Need-mul-stored-number Inv-loop μ-loop
+mul-stored-number c = search needs
 
-shared-slice-read-number-of-2 : tie.Need-shared-slice-read-number-of-2 Inv-loop μ-loop
-shared-slice-read-number-of-2 c = search needs
+shared-slice-read-stored-number-2 : tie.Need-shared-slice-read-stored-number-2 Inv-loop μ-loop
+shared-slice-read-stored-number-2 c = search needs
 
-number-of-requires : tie.Need-number-of-requires Inv-loop μ-loop
-number-of-requires c κs = search needs
+stored-number-requires : tie.Need-stored-number-requires Inv-loop μ-loop
+stored-number-requires c κs = search needs
 
 mul-out : tie.Need-mul-out Inv-loop μ-loop
 mul-out c = search needs
@@ -56,7 +56,7 @@ loop-again c =
     let l = c .before .before .before .before in
     let s = l .before .before .before .before in
     let a = s .args in
-    (omega arith, simp length-set (l .loop .inv .1), table-turn (λ k. cond (eqb (getD (a .marks .now) k 0) 1) (getD (a .rates .now) k 0) 0) (a .start) (a .n) (a .out .now) (s .pre .2) (l .loop .out) (l .loop .i) _ (omega arith) (c .number-of .ensures) (l .loop .inv .2))
+    (omega arith, simp length-set (l .loop .inv .1), table-turn (λ k. cond (eqb (getD (a .marks .now) k 0) 1) (getD (a .rates .now) k 0) 0) (a .start) (a .n) (a .out .now) (s .pre .2) (l .loop .out) (l .loop .i) _ (omega arith) (c .stored-number .ensures) (l .loop .inv .2))
 
 same-length : tie.Need-same-length Inv-loop μ-loop
 same-length c = c .before .loop .inv .1
@@ -75,12 +75,12 @@ put-rates-spec =
     Inv-loop
     μ-loop
     loop-holds
-    add-number-of
-    shared-slice-read-number-of
-    add-number-of-2
-    mul-number-of
-    shared-slice-read-number-of-2
-    number-of-requires
+    add-stored-number
+    shared-slice-read-stored-number
+    add-stored-number-2
+    mul-stored-number
+    shared-slice-read-stored-number-2
+    stored-number-requires
     mul-out
     slice-write-out
     add-i

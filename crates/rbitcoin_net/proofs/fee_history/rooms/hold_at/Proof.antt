@@ -13,14 +13,14 @@ sub-behind c = search needs
 open-u32-requires : tie.Need-open-u32-requires
 open-u32-requires c κs = search needs
 
-mark-in-requires : tie.Need-mark-in-requires
-mark-in-requires c κs = search needs
+mark-of-requires : tie.Need-mark-of-requires
+mark-of-requires c κs = search needs
 
 open-u8-requires : tie.Need-open-u8-requires
 open-u8-requires c κs = search needs
 
-number-in-requires : tie.Need-number-in-requires
-number-in-requires c κs = search needs
+number-of-requires : tie.Need-number-of-requires
+number-of-requires c κs = search needs
 
 open-u64-requires : tie.Need-open-u64-requires
 open-u64-requires c κs = search needs
@@ -48,7 +48,7 @@ same-length-4 c = search needs
 
 returns : tie.Need-returns
 returns c =
-    held-at _ _ _ _ _ _ _ _ _ _ _ _ _ _ _ _ (c .before .before .before .before .before .before .before .before .before .before .before .before .before .before .before .before .before .before .before .before .before .start-with .ensures .0) (c .before .before .before .before .before .before .before .before .before .before .before .before .before .before .mark-in .ensures) (c .before .before .before .before .before .before .before .before .before .number-in .ensures) (c .saturating-add .ensures)
+    held-at _ _ _ _ _ _ _ _ _ _ _ _ _ _ _ _ (c .before .before .before .before .before .before .before .before .before .before .before .before .before .before .before .before .before .before .before .before .before .start-with .ensures .0) (c .before .before .before .before .before .before .before .before .before .before .before .before .before .before .mark-of .ensures) (c .before .before .before .before .before .before .before .before .before .number-of .ensures) (c .saturating-add .ensures)
     (c .before .before .before .before .before .before .before .before .before .before .before .before .before .before .before .before .before .before .open-u32 .ensures)
     (c .before .before .before .before .before .before .before .before .before .before .before .before .before .open-u8 .ensures)
     (c .before .before .before .before .before .before .before .before .open-u64 .ensures)
@@ -61,9 +61,9 @@ hold-at-spec =
     start-with-requires
     sub-behind
     open-u32-requires
-    mark-in-requires
+    mark-of-requires
     open-u8-requires
-    number-in-requires
+    number-of-requires
     open-u64-requires
     open-u64-requires-2
     add-t
