@@ -77,6 +77,7 @@ pub extern "C" fn juleyomu_warmup_blend(
     marked_rate(fee_est::warmup_blend(alpha, rate_of(cold), rate_of(warm)))
 }
 
+// Each case by a call of its own, so that the rates of the cold one are never put together.
 #[no_mangle]
 pub extern "C" fn juleyomu_depth_rate_sat_kvb(
     n: u32,
@@ -88,13 +89,13 @@ pub extern "C" fn juleyomu_depth_rate_sat_kvb(
     ensures { λ r. ⌜ r .mark ≡ markOf (depthRateSatKvb n «flow_warm» (marked (flow .rate) (flow .mark)) (marked (frontier .rate) (frontier .mark)) (marked (hist .rate) (hist .mark))) ⌝ }
     ensures { λ r. ⌜ r .rate ≡ numberOf (depthRateSatKvb n «flow_warm» (marked (flow .rate) (flow .mark)) (marked (frontier .rate) (frontier .mark)) (marked (hist .rate) (hist .mark))) ⌝ }
 {
-    marked_rate(fee_est::depth_rate_sat_kvb(
-        n,
-        flow_warm,
-        rate_of(flow),
-        rate_of(frontier),
-        rate_of(hist),
-    ))
+    let f = rate_of(flow);
+    let r = rate_of(frontier);
+    let h = rate_of(hist);
+    if flow_warm {
+        return marked_rate(fee_est::depth_rate_sat_kvb(n, true, f, r, h));
+    }
+    marked_rate(fee_est::depth_rate_sat_kvb(n, false, f, r, h))
 }
 
 #[no_mangle]

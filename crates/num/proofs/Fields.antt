@@ -39,12 +39,12 @@ digits m =
     let e : s ≡ suc (s - 1) = omega arith in
     record { low = size-reaches (suc m) (s - 1) (omega arith); high = subst (λ (x : ℕ). suc m < 2 ^ x) e h }
 
-split : (l a : ℕ) → a ≤ l → 2 ^ l ≡ 2 ^ (l - a) * 2 ^ a
+pub split : (l a : ℕ) → a ≤ l → 2 ^ l ≡ 2 ^ (l - a) * 2 ^ a
 split l a h = ap (λ (x : ℕ). 2 ^ x) (sym (back l a h)) ∙ pow-add 2 (l - a) a
 
 -- ---- the pattern of m * 2 ^ e, which is m * 2 ^ j units
 module _ (m : ℕ) (e : ℤ) (j L : ℕ) (u : up e * 2 ^ 1074 ≡ 2 ^ j * down e) (d : Digits m L) (L52 : L ≤ 52) (normal : 52 ≤ L + j) where
-  pattern : toBits binary64 (fin false m e) ≡ (L + j - 52) * 2 ^ 52 + m * 2 ^ (52 - L)
+  pub pattern : toBits binary64 (fin false m e) ≡ (L + j - 52) * 2 ^ 52 + m * 2 ^ (52 - L)
   unfolding toBits
   pattern =
       let n = m * 2 ^ j in
@@ -75,7 +75,7 @@ unit (suc i) =
     let e : suc i - 1 ≡ i = omega arith in
     rw (lt-leb (suc i) 0 (omega arith), e) (refl, refl)
 
-significand-fits : (m : ℕ) (e : ℤ) (L : ℕ) → T (fits binary64 (fin false (suc m) e)) → L ≤ 52 → T (fits binary64 (fin false (suc m) (minus 0 L)))
+pub significand-fits : (m : ℕ) (e : ℤ) (L : ℕ) → T (fits binary64 (fin false (suc m) e)) → L ≤ 53 → T (fits binary64 (fin false (suc m) (minus 0 L)))
 significand-fits m e L f l =
     let whole : T (eqb (suc m % 2) 1 && ltb (suc m) (2 ^ 53)) =
     unfold fits in and-l (eqb (suc m % 2) 1 && ltb (suc m) (2 ^ 53)) (leb (down e) (2 ^ 1074)) (and-l (eqb (suc m % 2) 1 && ltb (suc m) (2 ^ 53) && leb (down e) (2 ^ 1074)) (ltb (suc m * up e) (2 ^ 1024 * down e)) f) in
@@ -105,7 +105,7 @@ module _ (m : ℕ) (e : ℤ) (j : ℕ) (f : T (fits binary64 (fin false (suc m) 
       let p = pattern (suc m) (minus 0 L) (1074 - L) L w d l (omega arith) in
       let x : toBits binary64 (fin false (suc m) e) / 2 ^ 52 ≡ exponentOf (fin false (suc m) e) + 1023 = exponent-field (suc m) e j L u d l (omega arith) ∙ omega arith in
       let s : ofBits binary64 (scaled (toBits binary64 (fin false (suc m) e))) ≡ fin false (suc m) (minus 0 L) =
-      ap (ofBits binary64) (digits-field (suc m) e j L u d l (omega arith) ∙ omega arith) ∙ ofBits-toBits binary64 (fin false (suc m) (minus 0 L)) (significand-fits m e L f l) in
+      ap (ofBits binary64) (digits-field (suc m) e j L u d l (omega arith) ∙ omega arith) ∙ ofBits-toBits binary64 (fin false (suc m) (minus 0 L)) (significand-fits m e L f (omega arith)) in
       record { exponent = x; small = omega (arith, toBits-lt binary64 (fin false (suc m) e) f); significand = s; number = no-nan _ (suc m) (minus 0 L) s }
 
 pub fields : (x : Float) → T (fits binary64 x) → T (fromOne x) → Fields x

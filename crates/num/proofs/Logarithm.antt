@@ -3,9 +3,10 @@ use mathlib.Core.Path.{_≡_, refl, ap}
 use Prim.Native.Nat.{ℕ, zero, suc, _+_, _-_, _*_, _^_, _<_, _≤_}
 use native.Mathlib.Nat.{lt-irrefl}
 use native.Mathlib.Omega.{arith}
-use mathlib.Core.Bool.{true, false}
+use mathlib.Core.Bool.{Bool, true, false, cond}
 use lib.IntN.{pos}
-use lib.Dec.{T, le→leb, lit≤}
+use lib.Dec.{T, eqb, le→leb, lit≤}
+use mir.Val.{boolByte}
 use lib.Ieee.{Float, nan, inf, fin, binary64, up, down, add, mul, le, ofInt, round}
 use lib.Ieee.Bits.{is-true}
 use Rattle.num.proofs.Bounded.{UpTo, round-up-to}
@@ -47,10 +48,22 @@ unfolding lnOf ofInt
 at-zero = refl
 
 module _ (x : Float) (h : T (fromOne x)) (m : Float) (k : ℕ) (M : m ≡ significandOf x) (K : k ≡ exponentOf x) where
-  pub at-halved : le sqrt2 m ≡ true → lnBy (ratio (mul binary64 m half)) (k + 1) ≡ lnOf x
+  at-halved : le sqrt2 m ≡ true → lnBy (ratio (mul binary64 m half)) (k + 1) ≡ lnOf x
   unfolding lnOf
   at-halved t = rw (is-true (fromOne x) h, ← M, ← K, t)
 
-  pub at-whole : le sqrt2 m ≡ false → lnBy (ratio m) k ≡ lnOf x
+  at-whole : le sqrt2 m ≡ false → lnBy (ratio m) k ≡ lnOf x
   unfolding lnOf
   at-whole t = rw (is-true (fromOne x) h, ← M, ← K, t)
+
+  -- halved and raised by a number that is 1 where m is at least SQRT_2, and otherwise 0
+  pub at-times : (y : Float) → y ≡ cond (eqb (boolByte (le sqrt2 m)) 1) (mul binary64 (significandOf x) half) (significandOf x) → lnBy (ratio y) (k + boolByte (le sqrt2 m)) ≡ lnOf x
+  at-times y e = go (le sqrt2 m) refl (rw (← M) at e)
+    where
+      go : (b : Bool) → le sqrt2 m ≡ b → y ≡ cond (eqb (boolByte (le sqrt2 m)) 1) (mul binary64 m half) m → lnBy (ratio y) (k + boolByte (le sqrt2 m)) ≡ lnOf x
+      go true t f = rw (f, t) (at-halved t)
+      go false t f = let z : k + 0 ≡ k = omega arith in rw (f, t, z) (at-whole t)
+
+pub byte-le : (b : Bool) → boolByte b ≤ 1
+byte-le true = omega arith
+byte-le false = omega arith

@@ -1,10 +1,11 @@
 // The stand-in for Rust's `ln`, of whole numbers and of 1.25.
 ghost use mathlib.Core.Path.{_≡_};
-ghost use mathlib.Core.Bool.{false};
-ghost use lib.Dec.{T};
+ghost use mathlib.Core.Bool.{false, cond};
+ghost use Prim.Native.Nat.{_≤_};
+ghost use lib.Dec.{T, eqb};
 ghost use lib.IntN.{pos, negsuc};
-ghost use lib.Ieee.{fin, binary64, ofInt};
-ghost use Rattle.num.specs.Ln.{fromOne, significandOf, exponentOf, ratio, reciprocal, terms, lnBy, lnOf};
+ghost use lib.Ieee.{fin, binary64, mul, ofInt};
+ghost use Rattle.num.specs.Ln.{half, fromOne, significandOf, exponentOf, ratio, reciprocal, terms, lnBy, lnOf};
 
 const SQRT_2: f64 = 1.4142135623730951;
 
@@ -20,6 +21,15 @@ fn significand(x: f64) -> f64
     ensures { λ r. ⌜ r ≡ significandOf x ⌝ }
 {
     f64::from_bits(f64::to_bits(x) % 0x10_0000_0000_0000 + 0x3FF0_0000_0000_0000)
+}
+
+// The significand of x, halved where `times` is 1: one less in the exponent field.
+fn halved(x: f64, times: u32) -> f64
+    requires { ⌜ T (fromOne x) × (times ≤ 1) ⌝ }
+    ensures { λ r. ⌜ r ≡ cond (eqb times 1) (mul binary64 (significandOf x) half) (significandOf x) ⌝ }
+{
+    let bits = f64::to_bits(x) % 0x10_0000_0000_0000 + 0x3FF0_0000_0000_0000;
+    f64::from_bits(bits - times as u64 * 0x10_0000_0000_0000)
 }
 
 // The exponent of x: the exponent field less 1023.
@@ -52,7 +62,7 @@ fn sum(m: f64, k: u32) -> f64
     k * HI + (2.0 * s * series(s * s) + k * LO)
 }
 
-// A stand-in for ln n, minus infinity at 0.
+// A stand-in for ln n, minus infinity at 0. No branch hangs on the significand, since none could be foretold.
 pub fn ln(n: u64) -> f64
     ensures { λ r. ⌜ r ≡ lnOf (ofInt binary64 (pos n)) ⌝ }
 {
@@ -60,12 +70,9 @@ pub fn ln(n: u64) -> f64
         return -1.0 / 0.0;
     }
     let x = std::num::nearest_u64_to_f64(n);
-    let m = significand(x);
     let k = exponent(x);
-    if m >= SQRT_2 {
-        return sum(m * 0.5, k + 1);
-    }
-    sum(m, k)
+    let times = (significand(x) >= SQRT_2) as u32;
+    sum(halved(x, times), k + times)
 }
 
 // A stand-in for ln 1.25, which is 5 / 2^2.

@@ -32,6 +32,17 @@ pub fn blend_weight(n_blocks: u32) -> f64
     num::exp::exp(-(n - 1.0) / BLEND_N0)
 }
 
+// The same rate, put together anew. A copy of the whole value takes its unused bytes along, by loads
+// that wait for the stores before them.
+fn same(rate: Rate) -> Rate
+    ensures { λ r. ⌜ given r ≡ given rate ⌝ }
+{
+    match rate {
+        Rate::There(x) => Rate::There(x),
+        Rate::Missing => Rate::Missing,
+    }
+}
+
 // Projected inflow with the N-block frontier. Where the pool is thinner than N blocks, a near depth
 // keeps the projected rate and a far one has none.
 pub fn flow_for_depth(projected: Rate, frontier: Rate, n_blocks: u32) -> Rate
@@ -44,7 +55,7 @@ pub fn flow_for_depth(projected: Rate, frontier: Rate, n_blocks: u32) -> Rate
         },
         Rate::Missing => {
             if blend_weight(n_blocks) >= NEAR_BLEND_FLOOR {
-                projected
+                same(projected)
             } else {
                 Rate::Missing
             }
@@ -71,7 +82,7 @@ fn first_of(a: Rate, b: Rate) -> Rate
 {
     match a {
         Rate::There(x) => Rate::There(x),
-        Rate::Missing => b,
+        Rate::Missing => same(b),
     }
 }
 
@@ -83,7 +94,7 @@ fn greater_of(a: Rate, b: Rate) -> Rate
             Rate::There(y) => Rate::There(num::word::greatest(x, y)),
             Rate::Missing => Rate::There(x),
         },
-        Rate::Missing => b,
+        Rate::Missing => same(b),
     }
 }
 
@@ -104,7 +115,7 @@ fn blend_rate(flow: Rate, hist: Rate, n_blocks: u32) -> Rate
             Rate::There(h) => Rate::There(blended(blend_weight(n_blocks), f, h)),
             Rate::Missing => Rate::There(f),
         },
-        Rate::Missing => hist,
+        Rate::Missing => same(hist),
     }
 }
 
@@ -141,7 +152,7 @@ fn blend_by(share: f64, cold: Rate, warm: Rate) -> Rate
                 }
             }
         },
-        Rate::Missing => cold,
+        Rate::Missing => same(cold),
     }
 }
 
@@ -201,7 +212,7 @@ fn floored_rate(n_blocks: u32, alpha: f64, warm: Rate, confirm: Rate) -> Rate
     if is_floored(n_blocks, alpha) {
         return greater_of(warm, confirm);
     }
-    warm
+    same(warm)
 }
 
 // One published depth: cold at α = 0, warm at α = 1. Less than 2 from the exact composition of rates

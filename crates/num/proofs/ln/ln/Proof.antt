@@ -4,11 +4,11 @@ use borrow.Author.Needs.{needs}
 use native.Mathlib.Omega.{arith}
 use lib.Dec.{T}
 use lib.IntN.{pos}
-use lib.Ieee.{binary64, neg, div, fits, ofBits}
+use lib.Ieee.{binary64, neg, div, le, fits, ofBits}
 use lib.Ieee.Fits.{ofInt-fits}
-use Rattle.num.specs.Ln.{fromOne, lnOf}
+use Rattle.num.specs.Ln.{sqrt2, fromOne, lnOf}
 use Rattle.num.proofs.Fields.{fields}
-use Rattle.num.proofs.Logarithm.{from-one, at-zero, at-halved, at-whole}
+use Rattle.num.proofs.Logarithm.{from-one, at-zero, at-times, byte-le}
 use Rattle.num.proofs.ln.ln.Statement.{statement}
 use Rattle.num.proofs.ln.ln.Tie as tie
 
@@ -26,40 +26,46 @@ returns c = rw (c .if1 .taken) at-zero
 nearest-u64-to-f64-requires : tie.Need-nearest-u64-to-f64-requires
 nearest-u64-to-f64-requires c κs = search needs
 
-significand-requires : tie.Need-significand-requires
-significand-requires c κs = positive c
-
 exponent-requires : tie.Need-exponent-requires
-exponent-requires c κs = positive (c .before)
+exponent-requires c κs = positive c
+
+significand-requires : tie.Need-significand-requires
+significand-requires c κs = positive (c .before)
+
+cast-times : tie.Need-cast-times
+cast-times c = search needs
+
+halved-requires : tie.Need-halved-requires
+halved-requires c κs = (positive (c .before .before), byte-le (le sqrt2 (c .significand .result)))
 
 add-sum : tie.Need-add-sum
 add-sum c =
-    let x = c .before .before .before in
-    omega (arith, c .before .exponent .ensures, fields (x .nearest-u64-to-f64 .result) (held x) (positive x) .small)
+    let k = c .before .before in
+    let x = k .before in
+    omega (arith, k .exponent .ensures, fields (x .nearest-u64-to-f64 .result) (held x) (positive x) .small, byte-le (le sqrt2 (c .before .significand .result)))
 
 sum-requires : tie.Need-sum-requires
 sum-requires c κs = search needs
 
 returns-2 : tie.Need-returns-2
 returns-2 c =
-    let k = c .before .before in
-    let m = k .before in
-    let x = m .before in
+    let m = c .before .before in
+    let k = m .before in
+    let x = k .before in
     c .sum .ensures
-    ∙ at-halved (x .nearest-u64-to-f64 .result) (positive x) (m .significand .result) (k .exponent .result) (m .significand .ensures) (k .exponent .ensures) (c .before .if2 .taken)
-    ∙ ap lnOf (x .nearest-u64-to-f64 .ensures)
-
-sum-requires-2 : tie.Need-sum-requires-2
-sum-requires-2 c κs = search needs
-
-returns-3 : tie.Need-returns-3
-returns-3 c =
-    let k = c .before .before in
-    let m = k .before in
-    let x = m .before in
-    c .sum2 .ensures
-    ∙ at-whole (x .nearest-u64-to-f64 .result) (positive x) (m .significand .result) (k .exponent .result) (m .significand .ensures) (k .exponent .ensures) (c .before .if2 .left)
+    ∙ at-times (x .nearest-u64-to-f64 .result) (positive x) (m .significand .result) (k .exponent .result) (m .significand .ensures) (k .exponent .ensures) (c .before .halved .result) (c .before .halved .ensures)
     ∙ ap lnOf (x .nearest-u64-to-f64 .ensures)
 
 pub ln-spec : {M : Type 1} → statement M
-ln-spec = tie.close (tie.spec returns nearest-u64-to-f64-requires significand-requires exponent-requires add-sum sum-requires returns-2 sum-requires-2 returns-3)
+ln-spec =
+    tie.close
+    (tie.spec
+    returns
+    nearest-u64-to-f64-requires
+    exponent-requires
+    significand-requires
+    cast-times
+    halved-requires
+    add-sum
+    sum-requires
+    returns-2)

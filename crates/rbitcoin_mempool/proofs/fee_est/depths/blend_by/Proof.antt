@@ -26,6 +26,9 @@ enum-told c = search needs
 enum-told-2 : tie.Need-enum-told-2
 enum-told-2 c = search needs
 
+same-requires : tie.Need-same-requires
+same-requires c κs = search needs
+
 returns : tie.Need-returns
 unfolding blendBy ofBits
 returns c = let k = c .before .before .before .before .before in let a = k .before .before .args in let w = k .warm .given .0 .0 in ap some (c .warmed .ensures) ∙ sym (ap (λ (x : Rate). blendBy (a .share) (given (a .cold)) (given x)) (k .warm .given .1) ∙ ap (λ (y : Rate). blendBy (a .share) (given y) (some w)) (c .before .before .cold .given .1))
@@ -40,7 +43,7 @@ returns-3 c = let k = c .before .before .before .before in let a = k .before .be
 
 returns-4 : tie.Need-returns-4
 unfolding blendBy ofBits
-returns-4 c = let a = c .before .before .args in sym (ap (λ (x : Rate). blendBy (a .share) (given (a .cold)) (given x)) (c .enum-told2 .given .1) ∙ no-warm (a .share) (given (a .cold)))
+returns-4 c = let a = c .before .before .before .args in c .same .ensures ∙ sym (ap (λ (x : Rate). blendBy (a .share) (given (a .cold)) (given x)) (c .before .enum-told2 .given .1) ∙ no-warm (a .share) (given (a .cold)))
 
 pub blend-by-spec : {M : Type 1} → statement M
 blend-by-spec =
@@ -51,6 +54,7 @@ blend-by-spec =
     warmed-requires
     enum-told
     enum-told-2
+    same-requires
     returns
     returns-2
     returns-3

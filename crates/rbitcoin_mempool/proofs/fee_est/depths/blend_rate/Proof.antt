@@ -27,6 +27,9 @@ enum-told c = search needs
 enum-told-2 : tie.Need-enum-told-2
 enum-told-2 c = search needs
 
+same-requires : tie.Need-same-requires
+same-requires c κs = search needs
+
 returns : tie.Need-returns
 unfolding blendSatKvb
 returns c = let k = c .before .before .before .before .before .before in let a = k .before .before .args in let f = k .flow .given .0 .0 in let h = c .before .before .before .hist .given .0 .0 in ap some (c .blended .ensures ∙ ap (λ (w : Float). blended w f h) (c .before .blend-weight .ensures .0)) ∙ sym (ap (λ (x : Rate). blendSatKvb (given x) (given (a .hist)) (a .n-blocks)) (k .flow .given .1) ∙ ap (λ (y : Rate). blendSatKvb (some f) (given y) (a .n-blocks)) (c .before .before .before .hist .given .1))
@@ -37,7 +40,7 @@ returns-2 c = let k = c .before .before .before in let a = k .before .before .ar
 
 returns-3 : tie.Need-returns-3
 unfolding blendSatKvb
-returns-3 c = let a = c .before .before .args in sym (ap (λ (x : Rate). blendSatKvb (given x) (given (a .hist)) (a .n-blocks)) (c .enum-told2 .given .1))
+returns-3 c = let a = c .before .before .before .args in c .same .ensures ∙ sym (ap (λ (x : Rate). blendSatKvb (given x) (given (a .hist)) (a .n-blocks)) (c .before .enum-told2 .given .1))
 
 pub blend-rate-spec : {M : Type 1} → statement M
 blend-rate-spec =
@@ -49,6 +52,7 @@ blend-rate-spec =
     blended-requires
     enum-told
     enum-told-2
+    same-requires
     returns
     returns-2
     returns-3)

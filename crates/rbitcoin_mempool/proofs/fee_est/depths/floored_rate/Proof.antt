@@ -13,8 +13,11 @@ greater-of-requires c κs = search needs
 returns : tie.Need-returns
 returns c = rw (sym (c .before .before .is-floored .ensures) ∙ c .before .if1 .taken) (c .greater-of .ensures)
 
+same-requires : tie.Need-same-requires
+same-requires c κs = search needs
+
 returns-2 : tie.Need-returns-2
-returns-2 c = rw (sym (c .before .is-floored .ensures) ∙ c .if1 .left)
+returns-2 c = rw (sym (c .before .before .is-floored .ensures) ∙ c .before .if1 .left) (c .same .ensures)
 
 pub floored-rate-spec : {M : Type 1} → statement M
-floored-rate-spec = tie.close (tie.spec is-floored-requires greater-of-requires returns returns-2)
+floored-rate-spec = tie.close (tie.spec is-floored-requires greater-of-requires returns same-requires returns-2)

@@ -29,6 +29,9 @@ enum-told-2 c = search needs
 blend-weight-requires : tie.Need-blend-weight-requires
 blend-weight-requires c κs = search needs
 
+same-requires : tie.Need-same-requires
+same-requires c κs = search needs
+
 returns : tie.Need-returns
 unfolding flowForDepth ofBits
 returns c = let a = c .before .before .before .before .before .before .before .args in ap some (c .greatest .ensures) ∙ sym (ap (λ (x : Rate). flowForDepth (given (a .projected)) (given x) (a .n-blocks)) (c .before .before .before .before .before .frontier .given .1) ∙ ap (λ (y : Rate). flowForDepth (given y) (some (c .before .before .before .before .before .frontier .given .0 .0)) (a .n-blocks)) (c .before .before .projected .given .1))
@@ -39,7 +42,7 @@ returns-2 c = let a = c .before .before .before .before .before .args in sym (ap
 
 returns-3 : tie.Need-returns-3
 unfolding flowForDepth ofBits
-returns-3 c = let a = c .before .before .before .before .args in let w = ap (le half64) (sym (c .before .blend-weight .ensures .0)) ∙ c .if1 .taken in sym (ap (λ (x : Rate). flowForDepth (given (a .projected)) (given x) (a .n-blocks)) (c .before .before .enum-told2 .given .1) ∙ no-frontier (given (a .projected)) (a .n-blocks) ∙ ap (λ (b : Bool). cond b (given (a .projected)) none) w)
+returns-3 c = let a = c .before .before .before .before .before .args in let w = ap (le half64) (sym (c .before .before .blend-weight .ensures .0)) ∙ c .before .if1 .taken in c .same .ensures ∙ sym (ap (λ (x : Rate). flowForDepth (given (a .projected)) (given x) (a .n-blocks)) (c .before .before .before .enum-told2 .given .1) ∙ no-frontier (given (a .projected)) (a .n-blocks) ∙ ap (λ (b : Bool). cond b (given (a .projected)) none) w)
 
 returns-4 : tie.Need-returns-4
 unfolding flowForDepth ofBits
@@ -55,6 +58,7 @@ flow-for-depth-spec =
     enum-told
     enum-told-2
     blend-weight-requires
+    same-requires
     returns
     returns-2
     returns-3
