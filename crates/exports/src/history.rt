@@ -15,6 +15,7 @@ ghost use Rattle.exports.specs.Blocks.{blockOf, BlockIs};
 ghost use Rattle.exports.specs.Counts.{countNumber};
 use crate::rate::refusal_number;
 use crate::windows::CountFields;
+use crate::windows::answered;
 use crate::windows::count_fields;
 use rbitcoin_mempool::answer::Rate;
 use rbitcoin_net::fee_history::BlockAnswer;
@@ -113,11 +114,56 @@ fn block_fields(a: BlockAnswer) -> BlockFields
     }
 }
 
+// The same elements, each by itself.
+fn numbers_one_by_one(t: [u64; 16]) -> [u64; 16]
+    ensures { λ r. ⌜ r ≡ t ⌝ }
+{
+    [
+        t[0],
+        t[1],
+        t[2],
+        t[3],
+        t[4],
+        t[5],
+        t[6],
+        t[7],
+        t[8],
+        t[9],
+        t[10],
+        t[11],
+        t[12],
+        t[13],
+        t[14],
+        t[15],
+    ]
+}
+
+// The same state for an answer, as `answered` has the windows'.
+fn answered_history(s: FeeHistory) -> FeeHistory
+    ensures { λ r. ⌜ r ≡ s ⌝ }
+{
+    let analog = s.analog;
+    let kept_numbers = s.kept_numbers;
+    let kept_marks = s.kept_marks;
+    FeeHistory {
+        analog: answered(analog),
+        analog_stale: s.analog_stale,
+        start: s.start,
+        count: s.count,
+        txstat_bytes: s.txstat_bytes,
+        budget: s.budget,
+        hashes: s.hashes,
+        kept: s.kept,
+        kept_numbers: numbers_one_by_one(kept_numbers),
+        kept_marks,
+    }
+}
+
 fn history_fields(u: HistoryUpdate) -> HistoryFields
     ensures { λ r. ⌜ (r .refusal ≡ verdictNumber (verdict (u .outcome))) × (r .state ≡ u .state) ⌝ }
 {
     let outcome = u.outcome;
-    let state = u.state;
+    let state = answered_history(u.state);
     HistoryFields {
         refusal: refusal_number(outcome),
         state,

@@ -33,11 +33,50 @@ pub struct CountFields {
     pub count: usize,
 }
 
+// The same elements, each by itself.
+fn one_by_one(t: [u32; 16]) -> [u32; 16]
+    ensures { λ r. ⌜ r ≡ t ⌝ }
+{
+    [
+        t[0],
+        t[1],
+        t[2],
+        t[3],
+        t[4],
+        t[5],
+        t[6],
+        t[7],
+        t[8],
+        t[9],
+        t[10],
+        t[11],
+        t[12],
+        t[13],
+        t[14],
+        t[15],
+    ]
+}
+
+// The same state for an answer, where a refusal's byte and unused ones stand before it. A copy of the targets as a whole
+// would take those along, read from where they are still being written.
+pub(crate) fn answered(s: AnalogHistory) -> AnalogHistory
+    ensures { λ r. ⌜ r ≡ s ⌝ }
+{
+    let targets = s.targets;
+    AnalogHistory {
+        targets: one_by_one(targets),
+        tracked: s.tracked,
+        capacity: s.capacity,
+        start: s.start,
+        count: s.count,
+    }
+}
+
 fn update_fields(u: Update) -> UpdateFields
     ensures { λ r. ⌜ (r .refusal ≡ verdictNumber (verdict (u .outcome))) × (r .state ≡ u .state) ⌝ }
 {
     let outcome = u.outcome;
-    let state = u.state;
+    let state = answered(u.state);
     UpdateFields {
         refusal: refusal_number(outcome),
         state,

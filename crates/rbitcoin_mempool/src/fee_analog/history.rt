@@ -23,6 +23,7 @@ use super::scan::find_target;
 use super::scan::pairs_in;
 use super::scan::scan;
 use super::scan::scan_refusal;
+use super::scan::tracks;
 use crate::answer::CountAnswer;
 use crate::answer::Outcome;
 use crate::answer::RateAnswer;
@@ -262,7 +263,7 @@ impl AnalogHistory {
         if refusal != 0 {
             return CountAnswer::Refused(refusal);
         }
-        if find_target(self, n_blocks) < self.tracked {
+        if tracks(self, n_blocks) {
             return CountAnswer::Count(pairs_in(self.count, n_blocks));
         }
         CountAnswer::Count(0)

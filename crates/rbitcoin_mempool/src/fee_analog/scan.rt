@@ -1,6 +1,7 @@
 // A rate from the pairs of one target.
 ghost use mathlib.Core.Path.{_≡_};
 ghost use Prim.Native.Nat.{_<_, _≤_};
+ghost use lib.Dec.{ltb};
 ghost use lib.ListN.{length};
 ghost use Rattle.rbitcoin_mempool.specs.Pairs.{windowsIn};
 ghost use Rattle.rbitcoin_mempool.specs.Nearest.{neighbors};
@@ -44,6 +45,24 @@ pub(crate) fn find_target(s: AnalogHistory, n: u32) -> usize
         d += 1;
     }
     d
+}
+
+// Whether a target of n blocks is tracked. All are looked at: where a search ends no branch can foretell.
+pub(crate) fn tracks(s: AnalogHistory, n: u32) -> bool
+    requires { ⌜ s .tracked ≤ 16 ⌝ }
+    ensures { λ r. ⌜ r ≡ ltb (findTarget s n) (s .tracked) ⌝ }
+{
+    let targets = s.targets;
+    let ahead = analog_ahead(n);
+    let mut found = false;
+    let mut d = 0;
+    while d < s.tracked {
+        if analog_ahead(targets[d]) == ahead {
+            found = true;
+        }
+        d += 1;
+    }
+    found
 }
 
 // How many pairs a count of hurdles has for a target.

@@ -2,6 +2,7 @@
 use borrow.Author.Needs.{needs}
 use native.Mathlib.Omega.{arith}
 use mathlib.Core.Path.{sym, ap, _∙_}
+use borrow.Author.Tests.{ltb-true, ltb-false}
 use Rattle.rbitcoin_mempool.specs.Counted.{countedOf}
 use Rattle.rbitcoin_mempool.specs.Windows.{stateRefusal, pairCount}
 use Rattle.rbitcoin_mempool.proofs.Refusals.{sound}
@@ -18,27 +19,27 @@ returns c =
     let r = c .before .state-refusal in
     count-refused (r .result) (pairCount (a .self) (a .n-blocks)) (c .if1 .taken) ∙ ap (λ k. countedOf k (pairCount (a .self) (a .n-blocks))) (r .ensures)
 
-find-target-requires : tie.Need-find-target-requires
-find-target-requires c κs = sound _ (sym (c .before .state-refusal .ensures) ∙ c .if1 .left) .few
+tracks-requires : tie.Need-tracks-requires
+tracks-requires c κs = sound _ (sym (c .before .state-refusal .ensures) ∙ c .if1 .left) .few
 
 pairs-in-requires : tie.Need-pairs-in-requires
-pairs-in-requires c κs = let e = c .before .before .before in let s = sound _ (sym (e .before .state-refusal .ensures) ∙ e .if1 .left) in omega arith
+pairs-in-requires c κs = let e = c .before .before in let s = sound _ (sym (e .before .state-refusal .ensures) ∙ e .if1 .left) in omega arith
 
 returns-2 : tie.Need-returns-2
 returns-2 c =
-    let e = c .before .before .before .before in
+    let e = c .before .before .before in
     let a = e .before .before .args in
-    let g = c .before .before .before .find-target .ensures in
+    let g = c .before .before .tracks .ensures in
     count-given (stateRefusal (a .self)) (pairCount (a .self) (a .n-blocks)) (c .pairs-in .result) (sym (e .before .state-refusal .ensures) ∙ e .if1 .left)
-    (c .pairs-in .ensures ∙ counted-tracked (a .self) (a .n-blocks) (omega (arith, c .before .if2 .taken)))
+    (c .pairs-in .ensures ∙ counted-tracked (a .self) (a .n-blocks) (ltb-true _ _ (sym g ∙ c .before .if2 .taken)))
 
 returns-3 : tie.Need-returns-3
 returns-3 c =
-    let e = c .before .before .before in
+    let e = c .before .before in
     let a = e .before .before .args in
-    let g = c .before .before .find-target .ensures in
+    let g = c .before .tracks .ensures in
     count-given (stateRefusal (a .self)) (pairCount (a .self) (a .n-blocks)) 0 (sym (e .before .state-refusal .ensures) ∙ e .if1 .left)
-    (counted-none (a .self) (a .n-blocks) (omega (arith, c .if2 .left)))
+    (counted-none (a .self) (a .n-blocks) (ltb-false _ _ (sym g ∙ c .if2 .left)))
 
 pub pairs-spec : {M : Type 1} → statement M
 pairs-spec =
@@ -46,7 +47,7 @@ pairs-spec =
     (tie.spec
     state-refusal-requires
     returns
-    find-target-requires
+    tracks-requires
     pairs-in-requires
     returns-2
     returns-3)
