@@ -2,3 +2,4 @@
 pub mod PassOn
 -- Laws that the functions' proofs cite.
 pub mod Verdicts
+pub mod OneByOne

@@ -77,7 +77,7 @@ pub extern "C" fn juleyomu_warmup_blend(
     marked_rate(fee_est::warmup_blend(alpha, rate_of(cold), rate_of(warm)))
 }
 
-// Each case by a call of its own, so that the rates of the cold one are never put together.
+// The warm and the cold case by calls of their own, so that the compiler keeps what each needs alone.
 #[no_mangle]
 pub extern "C" fn juleyomu_depth_rate_sat_kvb(
     n: u32,

@@ -1,7 +1,6 @@
 // The functions of the pair windows. The state passes by value.
 ghost use mathlib.Core.Path.{_≡_};
 ghost use lib.ListN.{length};
-ghost use Rattle.rbitcoin_mempool.specs.Answer.{answer};
 ghost use Rattle.rbitcoin_mempool.specs.Outcome.{verdict, verdictNumber};
 ghost use Rattle.rbitcoin_mempool.specs.Counted.{counted, countedOf};
 ghost use Rattle.rbitcoin_mempool.specs.Median.{analogLookback, lnRate, lowerMedian};
@@ -34,7 +33,7 @@ pub struct CountFields {
 }
 
 // The same elements, each by itself.
-fn one_by_one(t: [u32; 16]) -> [u32; 16]
+fn targets_one_by_one(t: [u32; 16]) -> [u32; 16]
     ensures { λ r. ⌜ r ≡ t ⌝ }
 {
     [
@@ -64,7 +63,7 @@ pub(crate) fn answered(s: AnalogHistory) -> AnalogHistory
 {
     let targets = s.targets;
     AnalogHistory {
-        targets: one_by_one(targets),
+        targets: targets_one_by_one(targets),
         tracked: s.tracked,
         capacity: s.capacity,
         start: s.start,

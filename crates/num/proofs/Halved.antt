@@ -1,13 +1,12 @@
 -- The bit pattern of a halved significand: one less in the exponent's field. Assumes nothing.
 use mathlib.Core.Path.{_≡_, refl, sym, ap, _∙_}
 use Prim.Native.Nat.{ℕ, zero, suc, _+_, _-_, _*_, _/_, _^_, _≤_, _<_}
-use native.Mathlib.Nat.{le-trans, le-of-eq, lt-of-lt-of-le, not-suc-le-zero, le-of-suc-le-suc, mul-one, one-mul, mul-assoc, mul-comm, mul-right-comm, mul-pos, mul-div-cancel}
+use native.Mathlib.Nat.{lt-of-lt-of-le, not-suc-le-zero, le-of-suc-le-suc, mul-one, one-mul, mul-assoc, mul-comm, mul-right-comm, mul-div-cancel}
 use native.Mathlib.Omega.{arith}
 use native.Mathlib.Numerals.{unary-clauses}
-use mathlib.Core.Bool.{Bool, true, false, not, cond, true≢false}
-use lib.IntN.{ℤ, pos, negsuc}
+use mathlib.Core.Bool.{true, false, not, cond, true≢false}
 use lib.Dec.{T, eqb, leb→le}
-use lib.Pow.{pow-add, pow-pos, pow-mono, shl-lt}
+use lib.Pow.{pow-pos, pow-mono, shl-lt}
 use lib.Ieee.{Float, nan, inf, fin, binary64, up, down, minus, size, fits, mul, round, toBits, ofBits, nanBits, isNan}
 use lib.Ieee.Digits.{size-le}
 use lib.Ieee.Fits.{down-pos, round-fits}
@@ -17,7 +16,7 @@ use Rattle.num.proofs.Value.{held}
 use Rattle.num.proofs.Values.{mul-value}
 use Rattle.num.proofs.BitOrder.{coded, bits-fin}
 use Rattle.num.proofs.Power.{no-nan}
-use Rattle.num.proofs.Fields.{digits, split, unit, pattern, significand-fits, scaled, Fields, fields}
+use Rattle.num.proofs.Fields.{digits, split, unit, pattern, significand-fits, scaled, fields}
 use Rattle.num.specs.Ln.{half, fromOne, significandOf}
 
 -- ---- a float by its value, in units of 2 ^ -1074

@@ -1,12 +1,12 @@
 -- From 2 ^ 52 to 2 ^ 53 `round` gives the nearest whole number, so that x + 2 ^ 52 - 2 ^ 52 is the whole part of x or one more; and a whole number n below 2 ^ 52 as a float, by the bits of 2 ^ 52 + n. Assumes nothing.
 use mathlib.Core.Path.{_≡_, refl, sym, ap, _∙_, subst}
 use Prim.Native.Nat.{ℕ, suc, _+_, _-_, _*_, _/_, _%_, _^_, _≤_, _<_}
-use native.Mathlib.Nat.{le-trans, le-of-eq, lt-of-lt-of-le, lt-of-not-le, not-le-of-lt, mul-assoc, mul-comm, mul-one, mul-right-comm, mul-le-mul-right, mul-lt-mul-of-pos-right, mul-pos, le-div-iff-mul-le, div-lt-iff-lt-mul, eq-of-mul-eq-mul-right}
+use native.Mathlib.Nat.{le-trans, le-of-eq, lt-of-lt-of-le, lt-of-not-le, not-le-of-lt, mul-assoc, mul-one, mul-right-comm, mul-le-mul-right, mul-lt-mul-of-pos-right, mul-pos, le-div-iff-mul-le, div-lt-iff-lt-mul, eq-of-mul-eq-mul-right}
 use native.Mathlib.Omega.{arith}
 use mathlib.Core.Bool.{Bool, false, not}
 use lib.Dec.{T, leb, lit≤, lit<}
 use borrow.Author.Tests.{lt-leb}
-use lib.Pow.{pow-add, pow-pos, pow-mono, pow-lt}
+use lib.Pow.{pow-add, pow-pos, pow-mono}
 use lib.IntN.{pos}
 use lib.Ieee.{Float, nan, inf, fin, binary64, low, emax, up, down, size, round, add, sub, ofInt, ofFields, ofBits, nanBits, isNan}
 use lib.Ieee.Digits.{size-lt, size-le}

@@ -1,6 +1,6 @@
 // Rust's casts, comparisons and rounding of `f64`, for every argument.
 ghost use mathlib.Core.Path.{_≡_};
-ghost use mathlib.Core.Bool.{true, false};
+ghost use mathlib.Core.Bool.{false};
 ghost use Prim.Native.Nat.{_+_};
 ghost use lib.Dec.{T};
 ghost use lib.IntN.{pos};

@@ -47,7 +47,7 @@ pub(crate) fn find_target(s: AnalogHistory, n: u32) -> usize
     d
 }
 
-// Whether a target of n blocks is tracked. All are looked at: where a search ends no branch can foretell.
+// Whether a target of n blocks is tracked. All are looked at: the branch at which a search ends could not be foretold.
 pub(crate) fn tracks(s: AnalogHistory, n: u32) -> bool
     requires { ⌜ s .tracked ≤ 16 ⌝ }
     ensures { λ r. ⌜ r ≡ ltb (findTarget s n) (s .tracked) ⌝ }

@@ -1,5 +1,5 @@
 -- `replay_lines::before` meets its contract. Assumes nothing.
-use mathlib.Core.Path.{_≡_, ap, sym, _∙_}
+use mathlib.Core.Path.{_≡_, ap, _∙_}
 use Prim.Native.Nat.{ℕ, _-_}
 use borrow.Author.Needs.{needs}
 use native.Mathlib.Omega.{arith}

@@ -1,11 +1,10 @@
 -- `replay_lines::copy_u64` meets its contract: each turn puts one element. Assumes nothing.
-use mathlib.Core.Path.{_≡_, refl, ap, sym, _∙_}
-use Prim.Native.Nat.{ℕ, suc, _+_, _-_, _≤_, min}
+use mathlib.Core.Path.{_≡_, refl, _∙_}
+use Prim.Native.Nat.{_-_, _≤_, min}
 use borrow.Author.Needs.{needs}
 use native.Mathlib.Omega.{arith}
 use native.Mathlib.Numerals.{add-one}
-use mathlib.Core.List.{List}
-use lib.ListN.{length, take, set}
+use lib.ListN.{length, take}
 use Rattle.io.proofs.Counting.{counts}
 use Rattle.replay_lines.specs.Lists.{over}
 use Rattle.replay_lines.proofs.Lists.{over-one, over-all}

@@ -5,9 +5,6 @@ use native.Mathlib.Omega.{arith}
 use Rattle.replay_lines.proofs.Digits.{hex-past}
 use Rattle.replay_lines.proofs.digit_at.Statement.{statement}
 use Rattle.replay_lines.proofs.digit_at.Tie as tie
-use Rattle.replay_lines.proofs.digit_at.Reads as reads
-use Rattle.replay_lines.proofs.digit_at.Lts as lts
-use Rattle.replay_lines.proofs.digit.Reads as digit-reads
 
 returns : tie.Need-returns
 returns c = let a = c .before .before .args in hex-past (a .s .now) (a .at + a .i) (omega arith)

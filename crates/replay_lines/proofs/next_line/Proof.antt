@@ -1,9 +1,8 @@
 -- `replay_lines::next_line` meets its contract. Assumes nothing.
-use mathlib.Core.Path.{_≡_}
 use borrow.Author.Needs.{needs}
 use borrow.Author.Tests.{lt-ltb, le-ltb}
 use native.Mathlib.Omega.{arith}
-use lib.ListN.{length, drop, length-drop}
+use lib.ListN.{drop, length-drop}
 use Rattle.replay_lines.specs.Lines.{afterLine}
 use Rattle.replay_lines.proofs.Lines.{up-to-fits}
 use Rattle.replay_lines.proofs.next_line.Statement.{statement}

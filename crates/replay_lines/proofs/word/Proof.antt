@@ -9,9 +9,6 @@ use Rattle.replay_lines.specs.Hex.{hexOf}
 use Rattle.replay_lines.proofs.Digits.{hex-small}
 use Rattle.replay_lines.proofs.word.Statement.{statement}
 use Rattle.replay_lines.proofs.word.Tie as tie
-use Rattle.replay_lines.proofs.word.Reads as reads
-use Rattle.replay_lines.proofs.word.Lts as lts
-use Rattle.replay_lines.proofs.digit_at.Reads as digit-at-reads
 
 abbrev Inv-loop : tie.InvT-loop
 Inv-loop s at x₀ i₀ x i = (i ≤ 16) × (x ≡ hexOf s at i)

@@ -1,11 +1,10 @@
 -- `replay_lines::words` meets its contract: each turn reads one word. Assumes nothing.
-use mathlib.Core.Path.{_≡_, refl, sym, ap, _∙_}
-use Prim.Native.Nat.{ℕ, suc, _+_, _-_, _≤_, min}
+use mathlib.Core.Path.{_≡_, refl, ap, _∙_}
+use Prim.Native.Nat.{ℕ, _-_, _≤_, min}
 use borrow.Author.Needs.{needs}
 use native.Mathlib.Omega.{arith}
 use native.Mathlib.Numerals.{add-one}
-use mathlib.Core.List.{List}
-use lib.ListN.{length, take, set}
+use lib.ListN.{length, take}
 use Rattle.replay_lines.specs.Lines.{upTo, wordsOf}
 use Rattle.replay_lines.specs.Lists.{over}
 use Rattle.replay_lines.proofs.Lines.{up-to-fits}

@@ -1,6 +1,6 @@
 -- `exports::depths::juleyomu_depth_rate_sat_kvb` meets its contract: the rate is marked as the answer is. Assumes nothing.
 use borrow.Author.Needs.{needs}
-use mathlib.Core.Path.{sym, ap, _∙_}
+use mathlib.Core.Path.{ap, _∙_}
 use Rattle.rbitcoin_mempool.specs.Rates.{numberOf, markOf}
 use Rattle.exports.proofs.depths.juleyomu_depth_rate_sat_kvb.Statement.{statement}
 use Rattle.exports.proofs.depths.juleyomu_depth_rate_sat_kvb.Tie as tie

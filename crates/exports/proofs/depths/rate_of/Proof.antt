@@ -1,5 +1,4 @@
 -- `exports::depths::rate_of` meets its contract: by its mark. Assumes nothing.
-use borrow.Author.Needs.{needs}
 use borrow.Author.Tests.{eq-eqb, ne-eqb}
 use Rattle.exports.proofs.depths.rate_of.Statement.{statement}
 use Rattle.exports.proofs.depths.rate_of.Tie as tie

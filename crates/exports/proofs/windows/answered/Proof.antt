@@ -3,11 +3,11 @@ use borrow.Author.Needs.{needs}
 use Rattle.exports.proofs.windows.answered.Statement.{statement}
 use Rattle.exports.proofs.windows.answered.Tie as tie
 
-one-by-one-requires : tie.Need-one-by-one-requires
-one-by-one-requires c κs = search needs
+targets-one-by-one-requires : tie.Need-targets-one-by-one-requires
+targets-one-by-one-requires c κs = search needs
 
 returns : tie.Need-returns
-returns c = rw (c .one-by-one .ensures)
+returns c = rw (c .targets-one-by-one .ensures)
 
 pub answered-spec : {M : Type 1} → statement M
-answered-spec = tie.close (tie.spec one-by-one-requires returns)
+answered-spec = tie.close (tie.spec targets-one-by-one-requires returns)

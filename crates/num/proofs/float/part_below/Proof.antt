@@ -1,11 +1,10 @@
 -- `num::float::part_below` meets its contract. Assumes nothing.
 use borrow.Author.Needs.{needs}
-use mathlib.Core.Path.{_≡_, sym, ap, _∙_, subst}
+use mathlib.Core.Path.{_≡_}
 use Prim.Native.Nat.{ℕ, _+_, _-_, _≤_}
 use native.Mathlib.Omega.{arith}
 use lib.Ieee.{ofBits}
 use lib.Ieee.Bits.{is-true}
-use mir.Val.{boolByte}
 use Rattle.num.proofs.Floors.{landed-cast}
 use Rattle.num.proofs.float.part_below.Statement.{statement}
 use Rattle.num.proofs.float.part_below.Tie as tie

@@ -1,7 +1,6 @@
 -- `replay_lines::digests::hurdle` meets its contract. Assumes nothing.
 use borrow.Author.Needs.{needs}
 use borrow.Author.Tests.{le-leb, lt-leb}
-use Rattle.replay_lines.specs.Digest.{raisedOf}
 use Rattle.replay_lines.proofs.digests.hurdle.Statement.{statement}
 use Rattle.replay_lines.proofs.digests.hurdle.Tie as tie
 

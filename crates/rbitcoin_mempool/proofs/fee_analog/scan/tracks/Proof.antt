@@ -3,7 +3,7 @@ use borrow.Author.Needs.{needs}
 use native.Mathlib.Omega.{arith}
 use mathlib.Core.Logic.{⊎-elim}
 use mathlib.Core.Path.{_≡_, refl, sym, ap, _∙_}
-use mathlib.Core.Bool.{Bool, true, false, true≢false}
+use mathlib.Core.Bool.{Bool, true, false}
 use Prim.Native.Nat.{ℕ, _+_, _-_, _≤_, _<_}
 use lib.Dec.{eqb, ltb}
 use borrow.Author.Count.{below-more}
@@ -12,7 +12,6 @@ use Rattle.slices.specs.Search.{seek}
 use Rattle.slices.proofs.Search.{seek-is, sought}
 use Rattle.rbitcoin_mempool.specs.Pairs.{aheadOf}
 use Rattle.rbitcoin_mempool.specs.Windows.{targetAt, findTarget}
-use Rattle.rbitcoin_mempool.specs.declared.fee_analog.history.AnalogHistory.{AnalogHistory}
 use Rattle.rbitcoin_mempool.proofs.fee_analog.scan.tracks.Statement.{statement}
 use Rattle.rbitcoin_mempool.proofs.fee_analog.scan.tracks.Tie as tie
 

@@ -1,7 +1,7 @@
 -- `fee_est::publish::publish_at` meets its contract. Assumes nothing.
 use borrow.Author.Needs.{needs}
 use mathlib.Core.Path.{ap, _∙_}
-use Prim.Native.Nat.{ℕ, _-_}
+use Prim.Native.Nat.{ℕ}
 use lib.ListN.{getD}
 use mathlib.Core.Option.{Option}
 use Rattle.rbitcoin_mempool.specs.Rates.{given, rateAt}
