@@ -15,7 +15,7 @@ use lib.Ieee.Digits.{size-lt, size-le, size-reaches}
 use lib.Ieee.Nearest.{div-mono}
 use lib.Ieee.Bits.{ofBits-toBits}
 use lib.Ieee.Compare.{differs-from-itself, nan-differs}
-use Rattle.num.specs.Float.{absBits}
+use Rattle.num.specs.Float.{absOf, absBits}
 use Rattle.num.proofs.Sign.{unsigned}
 
 -- a magnitude of n units as a pattern: the leading digits, and how many were dropped
@@ -182,3 +182,25 @@ a-number (fin s m e) h = tt
 pub no-number : (x : Float) → ne x x ≡ true → 2 ^ 64 - 1 ≡ absBits x
 unfolding absBits isNan
 no-number x h = rw (differs-from-itself x (subst T (sym h) tt))
+
+-- ---- magnitudes that are numbers are ordered as their bits
+abs-fits : (x : Float) → T (fits binary64 x) → T (fits binary64 (absOf x))
+abs-fits nan f = f
+abs-fits (inf s) f = unfold fits in tt
+abs-fits (fin true m e) f = other-sign m e f
+abs-fits (fin false m e) f = f
+
+abs-unsigned : (x : Float) → T (not (isNan x)) → T (unsigned (absOf x))
+unfolding isNan
+abs-unsigned nan h = absurd h
+abs-unsigned (inf s) h = tt
+abs-unsigned (fin s m e) h = tt
+
+abs-bits : (x : Float) → T (not (isNan x)) → absBits x ≡ toBits binary64 (absOf x)
+unfolding absBits isNan
+abs-bits nan h = absurd h
+abs-bits (inf s) h = refl
+abs-bits (fin s m e) h = refl
+
+pub abs-order : (x y : Float) → T (fits binary64 x) → T (fits binary64 y) → T (not (isNan x)) → T (not (isNan y)) → ltb (absBits x) (absBits y) ≡ lt (absOf x) (absOf y)
+abs-order x y a b n m = rw (abs-bits x n, abs-bits y m) (bits-order binary64 (absOf x) (absOf y) (abs-unsigned x n) (abs-unsigned y m) (abs-fits x a) (abs-fits y b))

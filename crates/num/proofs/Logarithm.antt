@@ -9,8 +9,7 @@ use lib.Dec.{T, eqb, le→leb, lit≤}
 use mir.Val.{boolByte}
 use lib.Ieee.{Float, nan, inf, fin, binary64, up, down, add, mul, le, ofInt, round}
 use lib.Ieee.Bits.{is-true}
-use Rattle.num.proofs.Bounded.{UpTo, round-up-to}
-use Rattle.num.proofs.Sizes.{AtLeast, round-at-least}
+use Rattle.num.proofs.Bounded.{UpTo, AtLeast, round-up-to, round-at-least}
 use Rattle.num.specs.Ln.{sqrt2, half, fromOne, significandOf, exponentOf, ratio, reciprocal, terms, lnBy, lnOf}
 
 pub step : (z t : Float) (j : ℕ) → 0 < j → terms z (j - 1) (add binary64 (reciprocal (j - 1)) (mul binary64 z t)) ≡ terms z j t

@@ -12,11 +12,6 @@ pub value-below : (w : Wide) → w .hi < 2 ^ 64 → w .lo < 2 ^ 64 → value w <
 unfolding value
 value-below w h k = digits-lt h k
 
--- a value tells the words
-pub same-words : (v w : Wide) → v .lo < 2 ^ 64 → w .lo < 2 ^ 64 → value v ≡ value w → (v .hi ≡ w .hi) × (v .lo ≡ w .lo)
-unfolding value
-same-words v w h k e = omega arith
-
 pub one-word : (w : Wide) → value w < 2 ^ 64 → (w .hi ≡ 0) × (w .lo ≡ value w)
 unfolding value
 one-word w h = omega arith

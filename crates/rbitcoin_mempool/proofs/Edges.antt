@@ -3,14 +3,14 @@ use mathlib.Core.Path.{_≡_, refl, sym, ap, _∙_}
 use mathlib.Core.Bool.{Bool, true, false, _&&_, cond}
 use mathlib.Core.List.{List, [], _∷_}
 use Prim.Native.Nat.{ℕ, zero, suc, _+_, _≤_, _<_}
-use native.Mathlib.Nat.{add-zero, le-refl, lt-of-lt-of-le, eq-or-lt-of-le, le-of-suc-le-suc, not-suc-le-zero}
+use native.Mathlib.Nat.{add-zero, le-refl, eq-or-lt-of-le, le-of-suc-le-suc, not-suc-le-zero}
 use native.Mathlib.Omega.{arith}
 use lib.Dec.{T, ltb, ltb→lt, eqb, eqb→eq}
 use lib.ListN.{getD, length}
 use lib.Seq.{ext-getD}
 use lib.Ieee.Fits.{and-l, and-r}
 use mathlib.Core.Logic.{inl, inr}
-use borrow.Author.Tests.{lt-ltb, ltb-true}
+use borrow.Author.Tests.{ltb-true}
 use Rattle.num.specs.Word.{saturatingAdd}
 use Rattle.slices.proofs.Lists.{tabulate-at, tabulate-length}
 use Rattle.rbitcoin_mempool.specs.Edges.{series, edgeAt, flowBucketEdges, firstAbove, firstBucketAbove}
@@ -101,13 +101,6 @@ edge-mono i (suc j) a b =
       | inl e ↦ rw e (le-refl (edgeAt (suc j)))
       | inr l ↦ omega (arith, edge-mono i j (le-of-suc-le-suc l) (omega arith), edge-rises j (omega arith))
     ]
-
--- a rate below an edge is below each later one
-abbrev pub above : ℕ → ℕ → Bool
-above rate i = ltb rate (edgeAt i)
-
-pub above-stays : (rate i j : ℕ) → i ≤ j → j < 401 → above rate i ≡ true → above rate j ≡ true
-above-stays rate i j l m h = lt-ltb rate (edgeAt j) (lt-of-lt-of-le (ltb-true rate (edgeAt i) h) (edge-mono i j l m))
 
 pub first-bucket-lt : (rate : ℕ) → firstBucketAbove rate < 403
 unfolding firstBucketAbove

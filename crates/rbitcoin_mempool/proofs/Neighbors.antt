@@ -1,17 +1,19 @@
 -- The pairs in band and the distances, as they are collected: how each list grows, and what a list of pairs is made of. Assumes nothing.
 use mathlib.Core.Path.{_≡_, refl, sym, ap, ap₂, _∙_}
-use mathlib.Core.Bool.{Bool, true, false, _&&_, _||_}
+use mathlib.Core.Bool.{Bool, true, false, not, _&&_, _||_}
 use mathlib.Core.List.{List, [], _∷_, _++_, map, map-append, append-assoc, append-nil}
-use Prim.Native.Nat.{ℕ, suc, zero, _+_, _*_, _≤_, _<_}
+use Prim.Native.Nat.{ℕ, _+_, _*_, _≤_, _<_}
 use native.Mathlib.Numerals.{add-one}
 use native.Mathlib.Omega.{arith}
 use lib.IntN.{ℤ, negsuc}
-use lib.ListN.{length, getD, take, drop, set, length-set, length-map, length-append, length-drop, take-append-drop, drop-of-length-le}
+use lib.ListN.{length, getD, take, drop, set, length-set, length-append, length-drop, take-append-drop, drop-of-length-le}
 use lib.Seq.{take-suc, take-suc-set, take-set-le, drop-set-lt, drop-drop, drop-cons, take-all, take-at, length-take-le}
-use lib.Ieee.{Float, nan, inf, fin, binary64, up, down, sub, neg, lt, eq, le, size, add, mul, div, ofBits, ofInt}
-use lib.Dec.{ltb, eqb}
+use lib.Ieee.{Float, nan, inf, fin, binary64, up, down, sub, neg, lt, eq, le, isNan, size, add, mul, div, ofBits, ofInt}
+use lib.Ieee.Fits.{sub-fits}
+use lib.Dec.{T, ltb, eqb}
 use borrow.Author.Tests.{lt-ltb, le-ltb, ltb-false, eq-eqb}
 use Rattle.num.specs.Float.{absBits, absOf}
+use Rattle.num.proofs.BitOrder.{abs-order}
 use Rattle.num.specs.Ln.{exponentOf, lnOf, significandOf, terms}
 use Rattle.rbitcoin_mempool.specs.Nearest.{band, distance, distances, inBand, nearest, neighbors, outcomesInBand, outcomesNearest, paired}
 use Rattle.rbitcoin_mempool.specs.Pairs.{Pair}
@@ -140,14 +142,6 @@ module _ (logs : List Float) (level : Float) (start out : List ℕ) (i : ℕ) (h
       sym (take-append-drop i out)
       ∙ ap₂ (λ a b. a ++ b) (h .front ∙ ap (distances level) (take-all i logs l)) (h .rest ∙ ap (λ j. drop j start) e)
 
-pub distances-at : (logs : List Float) (level : Float) (i : ℕ) (z : Float) → i < length logs → getD (distances level logs) i 0 ≡ absBits (sub binary64 (getD logs i z) level)
-distances-at [] level i z r = absurd (let f : ⊥ = omega arith in f)
-distances-at (l ∷ logs) level zero z r = refl
-distances-at (l ∷ logs) level (suc i) z r = distances-at logs level i z (omega arith)
-
-pub distances-length : (logs : List Float) (level : Float) → length (distances level logs) ≡ length logs
-distances-length logs level = length-map logs (λ l. absBits (sub binary64 l level))
-
 -- the front of a list that was written to the front of another
 pub front-of : (a start whole : List ℕ) (n : ℕ) → whole ≡ a ++ drop n start → length whole ≡ length start → n ≤ length start → take n whole ≡ a
 front-of a start whole n e s l =
@@ -181,3 +175,9 @@ module _ (now : Float) (ps : List Pair) (n : ℕ) (e : n ≡ length (outcomesInB
   pub enough : 200 ≤ n → outcomesInBand now ps ≡ neighbors now ps
   unfolding neighbors
   enough h = sym (rw (← e, le-ltb n 200 h))
+
+-- a lesser distance is one that IEEE 754 compares as less
+pub distance-order : (now : Float) (p q : Pair) → T (not (isNan (sub binary64 (p .before) now))) → T (not (isNan (sub binary64 (q .before) now)))
+    → ltb (distance now p) (distance now q) ≡ lt (absOf (sub binary64 (p .before) now)) (absOf (sub binary64 (q .before) now))
+unfolding distance
+distance-order now p q h k = abs-order (sub binary64 (p .before) now) (sub binary64 (q .before) now) (sub-fits binary64 (p .before) now) (sub-fits binary64 (q .before) now) h k

@@ -32,12 +32,3 @@ every-at p (suc n) e k l =
       | inl q ↦ rw q (and-right (every p n) (p n) e)
       | inr m ↦ every-at p n (and-left (every p n) (p n) e) k m
     ]
-
-pub every-false : (p : ℕ → Bool) (n k : ℕ) → k < n → p k ≡ false → every p n ≡ false
-unfolding every
-every-false p zero k l f = absurd (not-suc-le-zero l)
-every-false p (suc n) k l f =
-    elim (eq-or-lt-of-le (le-of-suc-le-suc l)) [
-      | inl q ↦ and-false (every p n) (p n) (rw (← q) f)
-      | inr m ↦ rw (every-false p n k m f)
-    ]

@@ -1,6 +1,6 @@
 -- `replay_lines::float_of` meets its contract: with the sign taken off, the patterns above infinity's are the NaNs'. Assumes nothing.
 use mathlib.Core.Path.{_≡_, refl, sym, _∙_}
-use mathlib.Core.Bool.{true, false, true≢false}
+use mathlib.Core.Bool.{true, true≢false}
 use borrow.Author.Needs.{needs}
 use borrow.Author.Tests.{lt-ltb, le-ltb}
 use lib.Ieee.{Float, nan, inf, fin, binary64, div, isNan, ofBits}

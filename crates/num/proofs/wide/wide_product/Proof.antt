@@ -1,6 +1,4 @@
 -- `num::wide_product` meets its contract, by `proofs/WideProduct.antt`. Assumes nothing.
-use mathlib.Core.Path.{_≡_, _∙_, ap}
-use Prim.Native.Nat.{ℕ, _+_, _*_, _/_, _%_, _^_}
 use native.Mathlib.Omega.{arith}
 use borrow.Author.Needs.{needs}
 use Rattle.num.specs.Wide.{value}
