@@ -1,16 +1,11 @@
--- Laws for callers of `wide`: the range of a value, when it is one word, a sum that fits, and a quotient by a number above 0. Assumes nothing.
+-- Laws for callers of `wide`: when a value is one word, a sum that fits, and a quotient by a number above 0. Assumes nothing.
 use mathlib.Core.Path.{_≡_, ap, _∙_}
 use Prim.Native.Nat.{ℕ, zero, suc, _+_, _/_, _%_, _^_, _≤_, _<_}
 use native.Mathlib.Nat.{mod-eq-of-lt, lt-of-lt-of-le, not-suc-le-zero}
 use native.Mathlib.Omega.{arith}
 use lib.Dec.{lit≤}
-use lib.Arith.{digits-lt}
 use Rattle.num.specs.declared.wide.Wide.{Wide}
 use Rattle.num.specs.Wide.{value, wrappingSum, divided}
-
-pub value-below : (w : Wide) → w .hi < 2 ^ 64 → w .lo < 2 ^ 64 → value w < 2 ^ 128
-unfolding value
-value-below w h k = digits-lt h k
 
 pub one-word : (w : Wide) → value w < 2 ^ 64 → (w .hi ≡ 0) × (w .lo ≡ value w)
 unfolding value

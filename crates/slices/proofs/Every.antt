@@ -15,10 +15,6 @@ and-left : (a b : Bool) → a && b ≡ true → a ≡ true
 and-left true b e = refl
 and-left false b e = absurd (true≢false (sym e))
 
-and-false : (a b : Bool) → b ≡ false → a && b ≡ false
-and-false true b e = e
-and-false false b e = refl
-
 pub every-true : (p : ℕ → Bool) (n : ℕ) → ((k : ℕ) → k < n → p k ≡ true) → every p n ≡ true
 unfolding every
 every-true p zero h = refl

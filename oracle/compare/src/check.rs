@@ -75,21 +75,17 @@ impl<I: Input, A: Words + 'static> Function<I, A> {
         Function { upstream, ..self }
     }
 
-    fn differs(&self, input: &I) -> bool {
-        (self.domain)(input)
-            && !words::same(
-                &(self.rattle)(input).words(),
-                &(self.patched)(input).words(),
-            )
+    fn differs(&self, rust: fn(&I) -> A, input: &I) -> bool {
+        (self.domain)(input) && !words::same(&(self.rattle)(input).words(), &rust(input).words())
     }
 
     /// A smaller input that still shows a difference, as far as single steps lead.
-    fn shrunk(&self, mut input: I) -> I {
+    fn shrunk(&self, rust: fn(&I) -> A, mut input: I) -> I {
         const STEPS: usize = 10_000;
         for _ in 0..STEPS {
             let size = words::size(&input.words());
             let next = input.smaller().into_iter().find(|candidate| {
-                words::size(&candidate.words()) < size && self.differs(candidate)
+                words::size(&candidate.words()) < size && self.differs(rust, candidate)
             });
             match next {
                 Some(next) => input = next,
@@ -97,6 +93,20 @@ impl<I: Input, A: Words + 'static> Function<I, A> {
             }
         }
         input
+    }
+
+    /// Keeps the smallest input with a difference that was found so far.
+    fn keep_smallest(&self, kept: &mut Option<Difference>, rust: fn(&I) -> A, input: &I) {
+        let size = kept.as_ref().map(|kept| words::size(&kept.input));
+        if size.is_some_and(|size| size <= words::size(&input.words())) {
+            return;
+        }
+        let input = self.shrunk(rust, input.clone());
+        *kept = Some(Difference {
+            input: input.words(),
+            rattle: (self.rattle)(&input).words(),
+            rust: rust(&input).words(),
+        });
     }
 }
 
@@ -186,6 +196,8 @@ struct Region {
     /// Differences that have no distance: a NaN on one side, or lists of different lengths.
     apart: u64,
     largest: Option<(u64, Difference)>,
+    /// Where a difference fails the run.
+    smallest: Option<Difference>,
 }
 
 impl Tally {
@@ -218,32 +230,17 @@ impl Tally {
             (function.patched)(&input).write(&mut rust);
             if !words::same(&rattle, &rust) {
                 self.differences += 1;
-                self.keep_smallest(function, &input);
+                function.keep_smallest(&mut self.smallest, function.patched, &input);
             }
             if let Some(upstream) = &function.upstream {
                 rust.clear();
                 (upstream.answer)(&input).write(&mut rust);
-                self.region((upstream.region)(&input), upstream.fails)
-                    .count(&input, &rattle, &rust);
+                let region = self.region((upstream.region)(&input), upstream.fails);
+                if !region.agrees(&input, &rattle, &rust) && upstream.fails {
+                    function.keep_smallest(&mut region.smallest, upstream.answer, &input);
+                }
             }
         }
-    }
-
-    fn keep_smallest<I: Input, A: Words + 'static>(
-        &mut self,
-        function: &Function<I, A>,
-        input: &I,
-    ) {
-        let kept = self.smallest.as_ref().map(|kept| words::size(&kept.input));
-        if kept.is_some_and(|kept| kept <= words::size(&input.words())) {
-            return;
-        }
-        let input = function.shrunk(input.clone());
-        self.smallest = Some(Difference {
-            input: input.words(),
-            rattle: (function.rattle)(&input).words(),
-            rust: (function.patched)(&input).words(),
-        });
     }
 
     fn region(&mut self, name: &'static str, fails: bool) -> &mut Region {
@@ -256,6 +253,7 @@ impl Tally {
                 differences: 0,
                 apart: 0,
                 largest: None,
+                smallest: None,
             });
             self.regions.len() - 1
         });
@@ -264,15 +262,16 @@ impl Tally {
 }
 
 impl Region {
-    fn count<I: Input>(&mut self, input: &I, rattle: &[Word], rust: &[Word]) {
+    /// Counts a case, and says whether the answers are the same.
+    fn agrees<I: Input>(&mut self, input: &I, rattle: &[Word], rust: &[Word]) -> bool {
         self.cases += 1;
         if words::same(rattle, rust) {
-            return;
+            return true;
         }
         self.differences += 1;
         let Some(distance) = words::distance(rattle, rust) else {
             self.apart += 1;
-            return;
+            return false;
         };
         if self
             .largest
@@ -286,6 +285,7 @@ impl Region {
             };
             self.largest = Some((distance, difference));
         }
+        false
     }
 }
 
@@ -335,21 +335,21 @@ pub fn run(part: &str, jobs: Vec<Job>, seed: u64) -> Count {
     print_differences(part, &tallies)
 }
 
-/// The cases, and the differences that fail the run.
+/// The cases, and the differences that fail the run: those with the patched Rust, and with the published one where no
+/// stand-in is concerned.
 fn print_differences(part: &str, tallies: &[Tally]) -> Count {
-    let mut patched = Count::default();
+    let mut failing = Count::default();
     let mut upstream = Count::default();
-    let mut failing = 0;
     for tally in tallies {
-        patched.cases += tally.cases;
-        patched.differences += tally.differences;
+        failing.cases += tally.cases;
+        failing.differences += tally.differences;
         for region in &tally.regions {
             upstream.cases += region.cases;
             upstream.differences += region.differences;
-            failing += if region.fails { region.differences } else { 0 };
+            failing.differences += if region.fails { region.differences } else { 0 };
         }
     }
-    println!("{part}: {patched}");
+    println!("{part}: {failing}");
     for tally in tallies {
         if let Some(smallest) = &tally.smallest {
             let Tally {
@@ -369,8 +369,7 @@ fn print_differences(part: &str, tallies: &[Tally]) -> Count {
             }
         }
     }
-    patched.differences += failing;
-    patched
+    failing
 }
 
 impl Region {
@@ -385,6 +384,11 @@ impl Region {
         print!("  {function}, {name}: {cases} cases, {differences} differences");
         if *apart > 0 {
             print!(", {apart} of them not comparable");
+        }
+        if let Some(smallest) = &self.smallest {
+            println!(", at its smallest input:");
+            smallest.print("upstream");
+            return;
         }
         let Some((distance, difference)) = &self.largest else {
             println!();
@@ -463,8 +467,13 @@ mod tests {
             ..BROKEN
         };
         let listed = tally(function.upstream(BROKEN.rattle, |_| "all"));
+        assert!(listed.regions[0].smallest.is_none());
         assert_eq!(print_differences("listed", &[listed]).differences, 0);
         let failing = tally(function.same_upstream(BROKEN.rattle));
+        let smallest = failing.regions[0].smallest.as_ref().expect("a difference");
+        assert!(words::same(&smallest.input, &vec![100_u64, 100].words()));
+        assert!(words::same(&smallest.rattle, &1_u64.words()));
+        assert!(words::same(&smallest.rust, &2_u64.words()));
         assert_eq!(print_differences("failing", &[failing]).differences, 41);
     }
 
