@@ -1,4 +1,4 @@
--- Laws of a rebuild: the turns of its loop, and that it holds the hurdles it was given. Assumes nothing.
+-- Laws of a rebuild: the turns of its loop, that it holds the hurdles it was given, and that it changes neither targets nor capacity. Assumes nothing.
 use Prim.Native.Nat.{ℕ, _+_, _≤_, _<_}
 use mathlib.Core.Path.{_≡_, refl, sym, ap, _∙_, subst}
 use mathlib.Core.List.{List, [], _∷_, _++_, append-assoc, append-nil}
@@ -8,13 +8,17 @@ use lib.ListN.{length, length-append, drop, getD, drop-of-length-le}
 use lib.Seq.{drop-cons}
 use borrow.Author.Tests.{eq-eqb, ne-eqb}
 use mathlib.Core.Logic.{⊎-elim}
+use mathlib.Core.Bool.{Bool, true, false, cond}
+use lib.Dec.{eqb}
+use Rattle.rbitcoin_mempool.specs.declared.fee_analog.history.AnalogHistory.{AnalogHistory}
+use Rattle.rbitcoin_mempool.specs.Reached.{SetUpAs}
 use Rattle.rbitcoin_mempool.specs.Windows.{WellStored, Windows, emptied, held, heldIn, pushAll, pushBackOf, pushRefusalOf, rebuildRefusalOf, rebuiltOf}
 use Rattle.rbitcoin_mempool.proofs.Kept.{Good, empty-good, good-stored, push-back-good}
 use Rattle.rbitcoin_mempool.proofs.Neighbors.{few}
 use Rattle.rbitcoin_mempool.proofs.Parts.{length-held}
 use Rattle.rbitcoin_mempool.proofs.Pushes.{ValidIn}
 use Rattle.rbitcoin_mempool.proofs.Refusals.{accepts, rebuild-accepted, zero-or-not}
-use Rattle.rbitcoin_mempool.proofs.Views.{push-back-capacity, push-back-held}
+use Rattle.rbitcoin_mempool.proofs.Views.{push-back-held, push-back-set-up, set-up}
 
 pub all-turn : (xs : List ℕ) (i : ℕ) (w u v : Windows) → i < length xs → v ≡ pushBackOf (getD xs i 0) w → pushAll (drop i xs) w ≡ u → pushAll (drop (i + 1) xs) v ≡ u
 unfolding pushAll
@@ -45,7 +49,7 @@ all-held (x ∷ xs) w g h =
     let z : pushRefusalOf w ≡ 0 = accepts (w .state) _ _ _ (g .valid) (omega arith) in
     let e : heldIn (pushBackOf x w) ≡ heldIn w ++ (x ∷ []) = push-back-held w x z in
     let n : length (heldIn (pushBackOf x w)) ≡ length (heldIn w) + 1 = ap length e ∙ length-append (heldIn w) (x ∷ []) in
-    let k : pushBackOf x w .state .capacity ≡ w .state .capacity = push-back-capacity w x in
+    let k = push-back-set-up w x .same-capacity in
     all-held xs (pushBackOf x w) (push-back-good w x g) (omega arith)
     ∙ ap (λ (l : List ℕ). l ++ xs) e
     ∙ append-assoc (heldIn w) (x ∷ []) xs
@@ -83,3 +87,24 @@ rebuild-good xs w g =
     (λ z. subst Good (rebuild-done xs w z) (all-good xs (emptied w) (empty-is-good xs w z)))
     (λ n. subst Good (rebuild-refused xs w n) g)
     (zero-or-not (rebuildRefusalOf xs w))
+
+-- a rebuild changes neither targets nor capacity
+all-set-up : (xs : List ℕ) (w : Windows) (s : AnalogHistory) → SetUpAs s (w .state) → SetUpAs s (pushAll xs w .state)
+unfolding pushAll
+all-set-up [] w s h = h
+all-set-up (x ∷ xs) w s h =
+    let p = push-back-set-up w x in
+    all-set-up xs (pushBackOf x w) s
+    (record {
+      same-targets = p .same-targets ∙ h .same-targets;
+      same-tracked = p .same-tracked ∙ h .same-tracked;
+      same-capacity = p .same-capacity ∙ h .same-capacity;
+    })
+
+pub rebuilt-set-up : (xs : List ℕ) (w : Windows) → SetUpAs (w .state) (rebuiltOf xs w .state)
+unfolding rebuiltOf
+rebuilt-set-up xs w = by (eqb (rebuildRefusalOf xs w) 0)
+  where
+    by : (a : Bool) → SetUpAs (w .state) (cond a (pushAll xs (emptied w)) w .state)
+    by true = all-set-up xs (emptied w) (w .state) (set-up (w .state) 0 0)
+    by false = record { same-targets = refl; same-tracked = refl; same-capacity = refl }

@@ -1,4 +1,4 @@
--- What each operation does to the held hurdles: a push adds one at its end, and a pop takes one. Assumes nothing.
+-- What each operation does to the held hurdles: a push adds one at its end, and a pop takes one; and that it changes neither targets nor capacity. Assumes nothing.
 use Prim.Native.Nat.{ℕ, _+_, _-_, _/_, _≤_, _<_}
 use mathlib.Core.Path.{_≡_, refl, sym, ap, _∙_, subst}
 use mathlib.Core.Logic.{⊎-elim}
@@ -10,8 +10,9 @@ use lib.Seq.{take-at}
 use lib.ListN.{length, length-append, take}
 use lib.Dec.{eqb}
 use Rattle.rbitcoin_mempool.specs.Pairs.{popBack, popFront, pushBack, pushFront}
-use Rattle.rbitcoin_mempool.specs.Reached.{popBackIn, popFrontIn}
-use Rattle.rbitcoin_mempool.specs.Windows.{Windows, freeOf, held, heldIn, movedTo, pushBackOf, pushFrontOf, pushRefusalOf, roomBack, roomFront, stateRefusal, storeBack, storeFront, withPairs}
+use Rattle.rbitcoin_mempool.specs.declared.fee_analog.history.AnalogHistory.{AnalogHistory}
+use Rattle.rbitcoin_mempool.specs.Reached.{SetUpAs, popBackIn, popFrontIn}
+use Rattle.rbitcoin_mempool.specs.Windows.{Windows, at, freeOf, held, heldIn, movedTo, popped, pushBackOf, pushFrontOf, pushRefusalOf, roomBack, roomFront, stateRefusal, storeBack, storeFront, withPairs}
 use Rattle.rbitcoin_mempool.proofs.Parts.{held-all-back, held-all-front, held-back, held-front, held-moved}
 use Rattle.rbitcoin_mempool.proofs.Pushes.{OpenAt, ValidIn, push-done, room-open}
 use Rattle.rbitcoin_mempool.proofs.Refusals.{accepted, popped-none, popped-some, valid-state, zero-or-not}
@@ -91,12 +92,36 @@ module _ (w : Windows) (v : ValidIn w) where
       ∙ sym (ap popFront (held-all-front (w .state) (w .hurdles) (omega arith) (omega arith))))
       (zero-or-not (w .state .count))
 
--- a push keeps the capacity
-pub push-back-capacity : (w : Windows) (x : ℕ) → pushBackOf x w .state .capacity ≡ w .state .capacity
+-- ---- no call changes the targets or the capacity
+pub set-up : (s : AnalogHistory) (start count : ℕ) → SetUpAs s (at s start count)
+set-up s start count = record { same-targets = refl; same-tracked = refl; same-capacity = refl }
+
+same-set-up : (s : AnalogHistory) → SetUpAs s s
+same-set-up s = record { same-targets = refl; same-tracked = refl; same-capacity = refl }
+
+pub push-back-set-up : (w : Windows) (x : ℕ) → SetUpAs (w .state) (pushBackOf x w .state)
 unfolding pushBackOf withPairs storeBack roomBack movedTo
-push-back-capacity w x = by (eqb (pushRefusalOf w) 0) (eqb (w .state .start + w .state .count) (w .state .capacity))
+push-back-set-up w x = by (eqb (pushRefusalOf w) 0) (eqb (w .state .start + w .state .count) (w .state .capacity))
   where
-    by : (a b : Bool) → cond a (withPairs true (storeBack x (cond b (movedTo (freeOf (w .state) / 4) w) w))) w .state .capacity ≡ w .state .capacity
-    by true true = refl
-    by true false = refl
-    by false b = refl
+    by : (a b : Bool) → SetUpAs (w .state) (cond a (withPairs true (storeBack x (cond b (movedTo (freeOf (w .state) / 4) w) w))) w .state)
+    by true true = set-up (w .state) _ _
+    by true false = set-up (w .state) _ _
+    by false b = same-set-up (w .state)
+
+pub push-front-set-up : (w : Windows) (x : ℕ) → SetUpAs (w .state) (pushFrontOf x w .state)
+unfolding pushFrontOf withPairs storeFront roomFront movedTo
+push-front-set-up w x = by (eqb (pushRefusalOf w) 0) (eqb (w .state .start) 0)
+  where
+    by : (a b : Bool) → SetUpAs (w .state) (cond a (withPairs false (storeFront x (cond b (movedTo (freeOf (w .state) - freeOf (w .state) / 4) w) w))) w .state)
+    by true true = set-up (w .state) _ _
+    by true false = set-up (w .state) _ _
+    by false b = same-set-up (w .state)
+
+pub popped-set-up : (start : ℕ) (s : AnalogHistory) → SetUpAs s (popped start s)
+unfolding popped
+popped-set-up start s = by (eqb (stateRefusal s) 0) (eqb (s .count) 0)
+  where
+    by : (a b : Bool) → SetUpAs s (cond a (cond b s (at s start (s .count - 1))) s)
+    by true true = same-set-up s
+    by true false = set-up s _ _
+    by false b = same-set-up s
