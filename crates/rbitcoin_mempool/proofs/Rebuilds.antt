@@ -10,7 +10,6 @@ use borrow.Author.Tests.{eq-eqb, ne-eqb}
 use mathlib.Core.Logic.{⊎-elim}
 use mathlib.Core.Bool.{Bool, true, false, cond}
 use lib.Dec.{eqb}
-use Rattle.rbitcoin_mempool.specs.declared.fee_analog.history.AnalogHistory.{AnalogHistory}
 use Rattle.rbitcoin_mempool.specs.Reached.{SetUpAs}
 use Rattle.rbitcoin_mempool.specs.Windows.{WellStored, Windows, emptied, held, heldIn, pushAll, pushBackOf, pushRefusalOf, rebuildRefusalOf, rebuiltOf}
 use Rattle.rbitcoin_mempool.proofs.Kept.{Good, empty-good, good-stored, push-back-good}
@@ -18,7 +17,7 @@ use Rattle.rbitcoin_mempool.proofs.Neighbors.{few}
 use Rattle.rbitcoin_mempool.proofs.Parts.{length-held}
 use Rattle.rbitcoin_mempool.proofs.Pushes.{ValidIn}
 use Rattle.rbitcoin_mempool.proofs.Refusals.{accepts, rebuild-accepted, zero-or-not}
-use Rattle.rbitcoin_mempool.proofs.Views.{push-back-held, push-back-set-up, set-up}
+use Rattle.rbitcoin_mempool.proofs.Views.{push-back-held, push-back-set-up, same-set-up, set-up, set-up-then}
 
 pub all-turn : (xs : List ℕ) (i : ℕ) (w u v : Windows) → i < length xs → v ≡ pushBackOf (getD xs i 0) w → pushAll (drop i xs) w ≡ u → pushAll (drop (i + 1) xs) v ≡ u
 unfolding pushAll
@@ -89,22 +88,15 @@ rebuild-good xs w g =
     (zero-or-not (rebuildRefusalOf xs w))
 
 -- a rebuild changes neither targets nor capacity
-all-set-up : (xs : List ℕ) (w : Windows) (s : AnalogHistory) → SetUpAs s (w .state) → SetUpAs s (pushAll xs w .state)
+pub all-set-up : (xs : List ℕ) (w : Windows) → SetUpAs (w .state) (pushAll xs w .state)
 unfolding pushAll
-all-set-up [] w s h = h
-all-set-up (x ∷ xs) w s h =
-    let p = push-back-set-up w x in
-    all-set-up xs (pushBackOf x w) s
-    (record {
-      same-targets = p .same-targets ∙ h .same-targets;
-      same-tracked = p .same-tracked ∙ h .same-tracked;
-      same-capacity = p .same-capacity ∙ h .same-capacity;
-    })
+all-set-up [] w = same-set-up (w .state)
+all-set-up (x ∷ xs) w = set-up-then (push-back-set-up w x) (all-set-up xs (pushBackOf x w))
 
 pub rebuilt-set-up : (xs : List ℕ) (w : Windows) → SetUpAs (w .state) (rebuiltOf xs w .state)
 unfolding rebuiltOf
 rebuilt-set-up xs w = by (eqb (rebuildRefusalOf xs w) 0)
   where
     by : (a : Bool) → SetUpAs (w .state) (cond a (pushAll xs (emptied w)) w .state)
-    by true = all-set-up xs (emptied w) (w .state) (set-up (w .state) 0 0)
-    by false = record { same-targets = refl; same-tracked = refl; same-capacity = refl }
+    by true = set-up-then (set-up (w .state) 0 0) (all-set-up xs (emptied w))
+    by false = same-set-up (w .state)

@@ -96,8 +96,11 @@ module _ (w : Windows) (v : ValidIn w) where
 pub set-up : (s : AnalogHistory) (start count : ℕ) → SetUpAs s (at s start count)
 set-up s start count = record { same-targets = refl; same-tracked = refl; same-capacity = refl }
 
-same-set-up : (s : AnalogHistory) → SetUpAs s s
+pub same-set-up : (s : AnalogHistory) → SetUpAs s s
 same-set-up s = record { same-targets = refl; same-tracked = refl; same-capacity = refl }
+
+pub set-up-then : {s t u : AnalogHistory} → SetUpAs s t → SetUpAs t u → SetUpAs s u
+set-up-then h k = record { same-targets = k .same-targets ∙ h .same-targets; same-tracked = k .same-tracked ∙ h .same-tracked; same-capacity = k .same-capacity ∙ h .same-capacity }
 
 pub push-back-set-up : (w : Windows) (x : ℕ) → SetUpAs (w .state) (pushBackOf x w .state)
 unfolding pushBackOf withPairs storeBack roomBack movedTo

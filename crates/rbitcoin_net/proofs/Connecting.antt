@@ -9,9 +9,9 @@ use lib.Ieee.{Float}
 use lib.ListN.{length}
 use borrow.Author.Tests.{eq-eqb, ne-eqb}
 use Rattle.rbitcoin_mempool.specs.declared.fee_analog.history.AnalogHistory.{AnalogHistory}
-use Rattle.rbitcoin_mempool.specs.Pairs.{pushBack}
 use Rattle.rbitcoin_mempool.specs.Windows.{Windows, windows, pushBackOf}
 use Rattle.rbitcoin_mempool.proofs.Refusals.{first-stands, then-second}
+use Rattle.rbitcoin_mempool.proofs.Views.{push-back-set-up}
 use Rattle.rbitcoin_net.specs.declared.fee_history.HistoricalFeeBlock.{HistoricalFeeBlock}
 use Rattle.rbitcoin_net.specs.declared.fee_history.FeeHistory.{FeeHistory}
 use Rattle.rbitcoin_net.specs.History.{hurdleOf}
@@ -25,8 +25,8 @@ use Rattle.rbitcoin_net.proofs.Tables.{either}
 use Rattle.rbitcoin_net.proofs.Search.{place-is}
 use Rattle.rbitcoin_net.proofs.Hashes.{hash-place-is}
 use Rattle.rbitcoin_net.proofs.Refusals.{Serves, serves}
-use Rattle.rbitcoin_net.proofs.CutSound.{capacity-stays, cut-alike}
-use Rattle.rbitcoin_net.proofs.Pushed.{back-pushes, rate-same}
+use Rattle.rbitcoin_net.proofs.CutSound.{cut-alike}
+use Rattle.rbitcoin_net.proofs.SetUps.{drop-set-up, rate-set-up}
 use Rattle.rbitcoin_net.proofs.Inserting.{bisect-within}
 
 -- ---- what is refused
@@ -104,8 +104,7 @@ module _ (h p : ℕ) (s : FeeHistory) (m : Lent) (x : Placed s m h p) where
       λ i. withHashes (b i) (unkept (g i))
 
   left-capacity : left .analog .capacity ≡ s .analog .capacity
-  unfolding dropFrom cutAt
-  left-capacity = capacity-stays (m .rows) (s .start + s .count - placeOf (m .rows .heights) s h) (placeOf (m .rows .heights) s h) s
+  left-capacity = drop-set-up h (m .rows) (m .hashes) s .same-windows .same-capacity
 
   left-start : left .start ≡ s .start
   unfolding dropFrom cutAt
@@ -148,7 +147,7 @@ module _ (h p : ℕ) (s : FeeHistory) (m : Lent) (x : Placed s m h p) where
     capacity-is : a .capacity ≡ s .analog .capacity
     capacity-is =
         ap (λ (w : Windows). w .state .capacity) f
-        ∙ rate-same pushBackOf pushBack back-pushes (windowsOf t m) o (t .«analog_stale») .capacity
+        ∙ rate-set-up pushBackOf push-back-set-up o (t .«analog_stale») (windowsOf t m) .same-capacity
         ∙ ap (λ (u : FeeHistory). u .analog .capacity) e
         ∙ left-capacity
 

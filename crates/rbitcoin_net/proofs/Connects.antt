@@ -15,6 +15,7 @@ use Rattle.rbitcoin_mempool.specs.Pairs.{pushBack}
 use Rattle.rbitcoin_mempool.specs.Outcome.{Verdict, done, refused, verdictOf}
 use Rattle.rbitcoin_mempool.specs.Windows.{Windows, heldIn, pushBackOf}
 use Rattle.rbitcoin_mempool.proofs.Refusals.{refusing, zero-or-not}
+use Rattle.rbitcoin_mempool.proofs.Views.{push-back-set-up}
 use Rattle.rbitcoin_net.specs.declared.fee_history.HistoricalFeeBlock.{HistoricalFeeBlock}
 use Rattle.rbitcoin_net.specs.declared.fee_history.FeeHistory.{FeeHistory}
 use Rattle.rbitcoin_net.specs.Map.{entry}
@@ -30,9 +31,10 @@ use Rattle.rbitcoin_net.proofs.Refusals.{both-zero, serves}
 use Rattle.rbitcoin_net.proofs.Full.{connect-full}
 use Rattle.rbitcoin_net.proofs.MapLaws.{cleared, connect-clears}
 use Rattle.rbitcoin_net.proofs.CutViews.{cut-view}
-use Rattle.rbitcoin_net.proofs.CutSound.{capacity-stays, cut-sound}
+use Rattle.rbitcoin_net.proofs.CutSound.{cut-sound}
 use Rattle.rbitcoin_net.proofs.Stores.{withRow, Fitting, store-sound, store-means}
-use Rattle.rbitcoin_net.proofs.Pushed.{back-pushes, rate-same, rate-good, rate-held, sound-good, windows-room, hurdles-with, maybe-behind}
+use Rattle.rbitcoin_net.proofs.SetUps.{drop-set-up, rate-set-up}
+use Rattle.rbitcoin_net.proofs.Pushed.{back-pushes, rate-good, rate-held, sound-good, windows-room, hurdles-with, maybe-behind}
 
 -- the newest row's rate goes behind the hurdles
 pub behind-hurdles : (h : ℕ) (b : HistoricalFeeBlock) (m : Rows) (s : FeeHistory) (stale : Bool) (hs : List ℕ) → stale ≡ false → hs ≡ hurdlesOf (heldRows m s) → pushMaybe pushBack (hurdleOf b) stale hs ≡ hurdlesOf (withRow (s .count) h b m s)
@@ -73,8 +75,7 @@ module _ (h : ℕ) (b : HistoricalFeeBlock) (hash : Option (List ℕ)) (small : 
   left-count = refl
 
   left-capacity : left .analog .capacity ≡ s .analog .capacity
-  unfolding dropFrom cutAt
-  left-capacity = capacity-stays m (s .start + s .count - placeOf (m .heights) s h) (placeOf (m .heights) s h) s
+  left-capacity = drop-set-up h m z s .same-windows .same-capacity
 
   parts : Parts (λ i. rowAt m i .key) h (s .start) (s .start + s .count) (placeOf (m .heights) s h)
   parts = place-parts m s h (x .ascends)
@@ -116,13 +117,13 @@ module _ (h : ℕ) (b : HistoricalFeeBlock) (hash : Option (List ℕ)) (small : 
   fitting : Fitting (left .count) h b m left pushed (left .«analog_stale»)
   fitting =
       let w = windowsOf left memory in
-      let k = rate-same pushBackOf pushBack back-pushes w (hurdleOf b) (left .«analog_stale») in
+      let k = rate-set-up pushBackOf push-back-set-up (hurdleOf b) (left .«analog_stale») w in
       let g = sound-good left memory left-sound in
       record {
         good = rate-good pushBackOf pushBack back-pushes w (hurdleOf b) (left .«analog_stale») g;
-        capacity = k .capacity;
-        tracked = k .tracked;
-        targets = k .targets;
+        capacity = k .same-capacity;
+        tracked = k .same-tracked;
+        targets = k .same-targets;
         hurdles = λ st. rate-held pushBackOf pushBack back-pushes w (hurdleOf b) (left .«analog_stale») g (windows-room left memory left-sound room) ∙ behind-hurdles h b m left (left .«analog_stale») (heldIn w) st (left-sound .hurdles st);
       }
 

@@ -29,7 +29,8 @@ use Rattle.rbitcoin_net.proofs.Tables.{Parts, table-split, ascends-at, 
 use Rattle.rbitcoin_net.proofs.Search.{place-parts, place-is}
 use Rattle.rbitcoin_net.proofs.Hashes.{hash-place-is}
 use Rattle.rbitcoin_net.proofs.Refusals.{Within, within, state-taken, lent-parts, windows-valid, lent-again}
-use Rattle.rbitcoin_net.proofs.CutViews.{pop-tracked, pop-capacity, forgets-good, forgets-view, hash-parts, cut-is, cut-view}
+use Rattle.rbitcoin_net.proofs.SetUps.{back-set-up, drop-set-up, rows-set-up}
+use Rattle.rbitcoin_net.proofs.CutViews.{forgets-good, forgets-view, hash-parts, cut-is, cut-view}
 
 -- ---- the hurdles of rows
 
@@ -80,24 +81,6 @@ module _ (m : Rows) where
   stale-stays zero i s = refl
   stale-stays (suc n) i s = stale-stays n (suc i) (forgotten i s)
 
-  tracked-stays : (n i : ℕ) (s : FeeHistory) → forgetRows popBackOf m i n s .analog .tracked ≡ s .analog .tracked
-  unfolding forgetRows forgetRow
-  tracked-stays zero i s = refl
-  tracked-stays (suc n) i s = tracked-stays n (suc i) (forgotten i s) ∙ go (eqb (getD (m .marks) i 0) 1 && not (s .«analog_stale»))
-    where
-      go : (b : Bool) → cond b (popBackOf (s .analog)) (s .analog) .tracked ≡ s .analog .tracked
-      go true = pop-tracked (s .analog .start) (s .analog)
-      go false = refl
-
-  pub capacity-stays : (n i : ℕ) (s : FeeHistory) → forgetRows popBackOf m i n s .analog .capacity ≡ s .analog .capacity
-  unfolding forgetRows forgetRow
-  capacity-stays zero i s = refl
-  capacity-stays (suc n) i s = capacity-stays n (suc i) (forgotten i s) ∙ go (eqb (getD (m .marks) i 0) 1 && not (s .«analog_stale»))
-    where
-      go : (b : Bool) → cond b (popBackOf (s .analog)) (s .analog) .capacity ≡ s .analog .capacity
-      go true = pop-capacity (s .analog .start) (s .analog)
-      go false = refl
-
 module _ (m : Rows) (z : Hashes) (us : List ℕ) (bs : List Float) (ds : List ℕ) (k : ℕ) (s : FeeHistory) (x : Sound s (lent m z us bs ds)) where
   abbrev memory : Lent
   memory = lent m z us bs ds
@@ -132,7 +115,7 @@ module _ (m : Rows) (z : Hashes) (us : List ℕ) (bs : List Float) (ds : List �
       let w = state-was in
       let p = parts in
       let q = hash-place in
-      let c = capacity-stays m dropped place s in
+      let c = rows-set-up popBackOf back-set-up m dropped place s .same-windows .same-capacity in
       sym (state-taken (dropFrom k m z s) 0 (sym (valid-state (left .analog) _ _ _ (left-good .valid))) refl (omega (arith, p .low, p .high, w .rows)) (omega (arith, q .high, w .hashes)))
 
   low-high : heldRows m s ≡ tabulate (rowAt m) (s .start) (place - s .start) ++ tabulate (rowAt m) place dropped
@@ -153,7 +136,7 @@ module _ (m : Rows) (z : Hashes) (us : List ℕ) (bs : List Float) (ds : List �
       let p = parts in
       let q = hash-place in
       record {
-        lent = lent-again s (dropFrom k m z s) memory (capacity-stays m dropped place s) (tracked-stays m dropped place s) state-is (x .lent);
+        lent = lent-again s (dropFrom k m z s) memory (drop-set-up k m z s .same-windows .same-capacity) (drop-set-up k m z s .same-windows .same-tracked) state-is (x .lent);
         ascends = ascends-of (rowAt m) (place - s .start) (s .start) (λ i j l o r. ascends-at (rowAt m) (s .count) (s .start) (x .ascends) i j l o (omega (arith, p .low, p .high)));
         hashes-ascend = ascends-of (hashAt z) (hashPlace k (hashList (s .hashes) z)) 0 (λ i j l o r. ascends-at (hashAt z) (s .hashes) 0 (x .hashes-ascend) i j l o (omega (arith, q .high)));
         stored = good-stored (windowsOf left memory) left-good;

@@ -14,8 +14,7 @@ use Rattle.rbitcoin_mempool.specs.declared.answer.Rate.the-variants.{There, Mis
 use Rattle.rbitcoin_mempool.specs.declared.fee_analog.history.AnalogHistory.{AnalogHistory}
 use Rattle.rbitcoin_mempool.specs.Pairs.{popBack}
 use Rattle.rbitcoin_mempool.specs.Rates.{given, rateAt}
-use Rattle.rbitcoin_mempool.specs.Windows.{windows, heldIn, popped, popBackOf, at}
-use Rattle.rbitcoin_mempool.specs.Windows.{stateRefusal as windowsRefusal}
+use Rattle.rbitcoin_mempool.specs.Windows.{windows, heldIn, popBackOf}
 use Rattle.rbitcoin_mempool.proofs.Kept.{Good, pop-back-good}
 use Rattle.rbitcoin_mempool.proofs.Views.{pop-back-held}
 use Rattle.rbitcoin_net.specs.declared.fee_history.HistoricalFeeBlock.{HistoricalFeeBlock}
@@ -29,6 +28,7 @@ use Rattle.rbitcoin_net.specs.Cuts.{withSums, forgetRow, forgetRows, cut
 use Rattle.rbitcoin_net.proofs.Tables.{Parts, ascends-rising, below-table, onward-table}
 use Rattle.rbitcoin_net.proofs.Search.{place-parts, bisect-parts}
 use Rattle.rbitcoin_net.proofs.Search.{at as element}
+use Rattle.rbitcoin_net.proofs.SetUps.{back-set-up}
 
 -- ---- the Rust's side
 
@@ -61,26 +61,6 @@ cut-is h x =
 rated : (b : Bool) (n : ℕ) → isSome (given (cond b (There n) Missing)) ≡ b
 rated true n = refl
 rated false n = refl
-
--- a pop keeps targets and capacity
-module _ (to : ℕ) (s : AnalogHistory) where
-  pop-keeps : {A : Type 0} (f : AnalogHistory → A) → f (at s to (s .count - 1)) ≡ f s → f (popped to s) ≡ f s
-  unfolding popped
-  pop-keeps f e = go (eqb (windowsRefusal s) 0) (eqb (s .count) 0)
-    where
-      go : (b c : Bool) → f (cond b (cond c s (at s to (s .count - 1))) s) ≡ f s
-      go true true = refl
-      go true false = e
-      go false c = refl
-
-  pub pop-tracked : popped to s .tracked ≡ s .tracked
-  pop-tracked = pop-keeps (λ x. x .tracked) refl
-
-  pub pop-targets : popped to s .targets ≡ s .targets
-  pop-targets = pop-keeps (λ x. x .targets) refl
-
-  pub pop-capacity : popped to s .capacity ≡ s .capacity
-  pop-capacity = pop-keeps (λ x. x .capacity) refl
 
 module _ (m : Rows) (z : Hashes) (us : List ℕ) (bs : List Float) (ds : List ℕ) where
   abbrev memory : Lent
@@ -117,7 +97,7 @@ module _ (m : Rows) (z : Hashes) (us : List ℕ) (bs : List Float) (ds : List �
       go false = view-sums (s .analog) total (heldIn (windowsOf s memory)) s refl refl refl
 
   forget-view : (i : ℕ) (s : FeeHistory) → Good (windowsOf s memory) → view (forgetRow popBackOf (getD (m .marks) i 0) (getD (m .sizes) i 0) s) memory ≡ forget popBack (blockAt m i) (view s memory)
-  forget-view i s g = forget-view-by popBackOf popBack i s (pop-tracked (s .analog .start) (s .analog)) (pop-targets (s .analog .start) (s .analog)) (pop-back-held (windowsOf s memory) (g .valid))
+  forget-view i s g = forget-view-by popBackOf popBack i s (back-set-up (s .analog) .same-tracked) (back-set-up (s .analog) .same-targets) (pop-back-held (windowsOf s memory) (g .valid))
 
   forget-good : (mark size : ℕ) (s : FeeHistory) → Good (windowsOf s memory) → Good (windowsOf (forgetRow popBackOf mark size s) memory)
   unfolding forgetRow

@@ -1,16 +1,15 @@
 -- An eviction leaves a sound state sound. Assumes nothing.
-use Prim.Native.Nat.{ℕ, zero, suc, _+_}
+use Prim.Native.Nat.{ℕ, zero, suc}
 use mathlib.Core.Path.{_≡_, refl, sym, _∙_, ap, subst}
 use mathlib.Core.Bool.{Bool, true, false, cond, not, _&&_}
 use mathlib.Core.List.{List, [], _∷_}
 use mathlib.Core.Option.{Option, none, some}
 use native.Mathlib.Omega.{arith}
-use lib.Dec.{ltb, eqb}
+use lib.Dec.{ltb}
 use lib.Ieee.{Float}
-use lib.ListN.{getD}
 use Rattle.slices.specs.Lists.{tabulate}
 use Rattle.rbitcoin_mempool.specs.Pairs.{popFront}
-use Rattle.rbitcoin_mempool.specs.Windows.{heldIn, popFrontOf}
+use Rattle.rbitcoin_mempool.specs.Windows.{heldIn}
 use Rattle.rbitcoin_mempool.proofs.Kept.{good-stored, stored-good}
 use Rattle.rbitcoin_net.specs.declared.fee_history.FeeHistory.{FeeHistory}
 use Rattle.rbitcoin_net.specs.Map.{Ascends, isSome}
@@ -19,7 +18,7 @@ use Rattle.rbitcoin_net.specs.Lent.{Rows, Hashes, Lent, lent, rowAt, hel
 use Rattle.rbitcoin_net.specs.Cuts.{withSums, unkept, forgetRow}
 use Rattle.rbitcoin_net.specs.Evictions.{Hashed, hashed, evictRow, evictOldest, evictRows, evictIn}
 use Rattle.rbitcoin_net.proofs.Refusals.{Serves, serves, serves-lent}
-use Rattle.rbitcoin_net.proofs.CutViews.{pop-capacity}
+use Rattle.rbitcoin_net.proofs.SetUps.{evict-row-set-up}
 use Rattle.rbitcoin_net.proofs.EvictViews.{Fit, one-view, one-fit, next-start, next-count}
 
 -- a sound state is sound with another total, and without kept rates
@@ -66,12 +65,7 @@ module _ (m : Rows) (us : List ℕ) (bs : List Float) (ds : List ℕ) where
     rows-are = λ i. tabulate (rowAt m) (next-start m us bs ds s z fit i) (next-count m us bs ds s z fit n c i)
 
     capacity-is : next .state .analog .capacity ≡ s .analog .capacity
-    unfolding evictRow forgetRow
-    capacity-is = go (eqb (getD (m .marks) (s .start) 0) 1 && not (s .«analog_stale»))
-      where
-        go : (b : Bool) → cond b (popFrontOf (s .analog)) (s .analog) .capacity ≡ s .analog .capacity
-        go true = pop-capacity (s .analog .start + 1) (s .analog)
-        go false = refl
+    capacity-is = evict-row-set-up _ _ _ (hashed s z) .same-windows .same-capacity
 
     stale-is : next .state .«analog_stale» ≡ s .«analog_stale»
     unfolding evictRow forgetRow

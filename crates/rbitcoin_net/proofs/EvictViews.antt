@@ -1,5 +1,5 @@
 -- What an eviction means: the view after it is the Rust's `evict` of the view before. Assumes nothing.
-use Prim.Native.Nat.{ℕ, zero, suc, _+_, _-_}
+use Prim.Native.Nat.{ℕ, zero, suc, _-_}
 use mathlib.Core.Path.{_≡_, refl, _∙_}
 use mathlib.Core.Bool.{Bool, true, false, cond, not, _&&_}
 use mathlib.Core.List.{List, [], _∷_}
@@ -21,7 +21,8 @@ use Rattle.rbitcoin_net.specs.Lent.{Rows, Hashes, Lent, lent, rowAt, hel
 use Rattle.rbitcoin_net.specs.Hashes.{hashList, Room, removeHash}
 use Rattle.rbitcoin_net.specs.Cuts.{withSums, unkept, forgetRow}
 use Rattle.rbitcoin_net.specs.Evictions.{Hashed, hashed, evictRow, evictOldest, evictRows, evictIn}
-use Rattle.rbitcoin_net.proofs.CutViews.{pop-tracked, pop-targets, forget-view-by}
+use Rattle.rbitcoin_net.proofs.CutViews.{forget-view-by}
+use Rattle.rbitcoin_net.proofs.SetUps.{front-set-up}
 use Rattle.rbitcoin_net.proofs.Evictions.{remove-room}
 use Rattle.rbitcoin_net.proofs.HashViews.{remove-view, remove-ascends}
 
@@ -51,7 +52,7 @@ module _ (m : Rows) (us : List ℕ) (bs : List Float) (ds : List ℕ) where
     unfolding evictOne forget view
     one-view ps =
         one-fields ps
-        ∙ (λ i. setBlocks ps (setHashes (remove-view height (hashList (s .hashes) z) (x .room) (x .ascends) i) (forget-view-by m z us bs ds popFrontOf popFront (s .start) s (pop-tracked (s .analog .start + 1) (s .analog)) (pop-targets (s .analog .start + 1) (s .analog)) (pop-front-held (windowsOf s (with z)) (x .good .valid)) i)))
+        ∙ (λ i. setBlocks ps (setHashes (remove-view height (hashList (s .hashes) z) (x .room) (x .ascends) i) (forget-view-by m z us bs ds popFrontOf popFront (s .start) s (front-set-up (s .analog) .same-tracked) (front-set-up (s .analog) .same-targets) (pop-front-held (windowsOf s (with z)) (x .good .valid)) i)))
 
     pub one-good : Good (windowsOf (next .state) (with (next .hashes)))
     unfolding evictRow forgetRow

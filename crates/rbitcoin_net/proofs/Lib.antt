@@ -7,6 +7,7 @@ pub mod Readers
 pub mod Hashes
 pub mod HashViews
 pub mod EvictViews
+pub mod SetUps
 pub mod Cuts
 pub mod Evictions
 pub mod Rooms

@@ -28,7 +28,7 @@ use Rattle.rbitcoin_net.specs.Inserts.{insertIfAbsentRefusal, Placed, Wh
 use Rattle.rbitcoin_net.proofs.Tables.{either}
 use Rattle.rbitcoin_net.proofs.Search.{place-is}
 use Rattle.rbitcoin_net.proofs.Refusals.{serves}
-use Rattle.rbitcoin_net.proofs.Pushed.{preload-same}
+use Rattle.rbitcoin_net.proofs.SetUps.{preload-windows-set-up}
 use Rattle.rbitcoin_net.proofs.Connecting.{sizesOf, lent-is}
 
 -- ---- the windows and the stale mark, by the code's branches
@@ -104,7 +104,7 @@ module _ (h p : ℕ) (s : FeeHistory) (m : Lent) (x : Placed s m h p) where
       let v = serves s m (x .lent) in
       let r = v .rows-reach in
       let w = v .rows-within in
-      let c : a .capacity ≡ s .analog .capacity = ap (λ (y : Windows). y .state .capacity) f ∙ preload-same (p - s .start) (s .count) o (s .«analog_stale») (windowsOf s m) .capacity in
+      let c : a .capacity ≡ s .analog .capacity = ap (λ (y : Windows). y .state .capacity) f ∙ preload-windows-set-up (p - s .start) (s .count) o (s .«analog_stale») (windowsOf s m) .same-capacity in
       let t = x .low in
       let u = x .high in (
         record {

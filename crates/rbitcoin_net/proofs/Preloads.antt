@@ -32,7 +32,8 @@ use Rattle.rbitcoin_net.proofs.CutSound.{hurdles-append}
 use Rattle.rbitcoin_net.proofs.EvictSound.{unkept-sound}
 use Rattle.rbitcoin_net.proofs.Stores.{withRow, Fitting, store-sound, store-means}
 use Rattle.rbitcoin_net.proofs.Connects.{behind-hurdles, unfilled}
-use Rattle.rbitcoin_net.proofs.Pushed.{back-pushes, front-pushes, preload-same, rate-good, rate-held, sound-good, windows-room, hurdles-with, maybe-before}
+use Rattle.rbitcoin_net.proofs.SetUps.{preload-windows-set-up}
+use Rattle.rbitcoin_net.proofs.Pushed.{back-pushes, front-pushes, rate-good, rate-held, sound-good, windows-room, hurdles-with, maybe-before}
 
 -- ---- the last height of a table
 
@@ -195,8 +196,8 @@ module _ (h : ℕ) (b : HistoricalFeeBlock) (m : Rows) (z : Hashes) (us : List �
 
   pub preload-fitting : Fitting q h b m (unkept s) (preloadWindows q (s .count) o st w) (preloadStale q (s .count) o st)
   preload-fitting =
-      let k = preload-same q (s .count) o st w in
-      record { good = changed-good; capacity = k .capacity; tracked = k .tracked; targets = k .targets; hurdles = changed-hurdles }
+      let k = preload-windows-set-up q (s .count) o st w in
+      record { good = changed-good; capacity = k .same-capacity; tracked = k .same-tracked; targets = k .same-targets; hurdles = changed-hurdles }
 
 -- ---- a preload of an absent height
 

@@ -1,16 +1,14 @@
 -- A rate pushed onto the windows of a sound state: it is accepted, and the windows fit the rows with the new one. Assumes nothing.
-use Prim.Native.Nat.{ℕ, _+_, _-_, _/_, _≤_, _<_}
+use Prim.Native.Nat.{ℕ, _+_, _-_, _≤_, _<_}
 use mathlib.Core.Path.{_≡_, refl, sym, ap}
-use mathlib.Core.Bool.{Bool, true, false, cond}
+use mathlib.Core.Bool.{Bool, true, false}
 use mathlib.Core.List.{List, [], _∷_, _++_, append-nil}
 use mathlib.Core.Option.{Option, none, some}
 use native.Mathlib.Omega.{arith}
-use lib.Dec.{eqb}
 use lib.ListN.{length}
 use Rattle.slices.proofs.Lists.{tabulate-length}
-use Rattle.rbitcoin_mempool.specs.declared.fee_analog.history.AnalogHistory.{AnalogHistory}
 use Rattle.rbitcoin_mempool.specs.Pairs.{pushBack, pushFront}
-use Rattle.rbitcoin_mempool.specs.Windows.{Windows, heldIn, freeOf, movedTo, roomBack, roomFront, storeBack, storeFront, withPairs, pushBackOf, pushFrontOf, pushRefusalOf}
+use Rattle.rbitcoin_mempool.specs.Windows.{Windows, heldIn, pushBackOf, pushFrontOf, pushRefusalOf}
 use Rattle.rbitcoin_mempool.proofs.Kept.{Good, push-back-good, push-front-good, stored-good}
 use Rattle.rbitcoin_mempool.proofs.Parts.{length-held}
 use Rattle.rbitcoin_mempool.proofs.Refusals.{accepts}
@@ -20,57 +18,22 @@ use Rattle.rbitcoin_net.specs.declared.fee_history.FeeHistory.{FeeHistor
 use Rattle.rbitcoin_net.specs.Map.{Entry, entry}
 use Rattle.rbitcoin_net.specs.History.{hurdleOf, consMaybe, hurdlesOf, pushMaybe}
 use Rattle.rbitcoin_net.specs.Lent.{Lent, heldRows, rowAt, windowsOf, Sound}
-use Rattle.rbitcoin_net.specs.Inserts.{pushRate, preloadWindows}
+use Rattle.rbitcoin_net.specs.Inserts.{pushRate}
 use Rattle.rbitcoin_net.proofs.Refusals.{serves}
 use Rattle.rbitcoin_net.proofs.CutSound.{hurdles-append}
 
--- windows of the same size and targets
-pub record Same (a b : AnalogHistory) : Type 0 where
-  pub capacity : a .capacity ≡ b .capacity
-  pub tracked : a .tracked ≡ b .tracked
-  pub targets : a .targets ≡ b .targets
-
-pub same : (a : AnalogHistory) → Same a a
-same a = record { capacity = refl; tracked = refl; targets = refl }
-
-module _ (r : ℕ) (w : Windows) where
-  back-same : Same (pushBackOf r w .state) (w .state)
-  unfolding pushBackOf withPairs storeBack roomBack movedTo
-  back-same = by (eqb (pushRefusalOf w) 0) (eqb (w .state .start + w .state .count) (w .state .capacity))
-    where
-      by : (a b : Bool) → Same (cond a (withPairs true (storeBack r (cond b (movedTo (freeOf (w .state) / 4) w) w))) w .state) (w .state)
-      by true true = record { capacity = refl; tracked = refl; targets = refl }
-      by true false = record { capacity = refl; tracked = refl; targets = refl }
-      by false b = same (w .state)
-
-  front-same : Same (pushFrontOf r w .state) (w .state)
-  unfolding pushFrontOf withPairs storeFront roomFront movedTo
-  front-same = by (eqb (pushRefusalOf w) 0) (eqb (w .state .start) 0)
-    where
-      by : (a b : Bool) → Same (cond a (withPairs false (storeFront r (cond b (movedTo (freeOf (w .state) - freeOf (w .state) / 4) w) w))) w .state) (w .state)
-      by true true = record { capacity = refl; tracked = refl; targets = refl }
-      by true false = record { capacity = refl; tracked = refl; targets = refl }
-      by false b = same (w .state)
-
 -- what a push at either end does
 pub record Pushes (push : ℕ → Windows → Windows) (add : ℕ → List ℕ → List ℕ) : Type 0 where
-  pub keeps : (r : ℕ) (w : Windows) → Same (push r w .state) (w .state)
   pub good : (r : ℕ) (w : Windows) → Good w → Good (push r w)
   pub adds : (r : ℕ) (w : Windows) → pushRefusalOf w ≡ 0 → heldIn (push r w) ≡ add r (heldIn w)
 
 pub back-pushes : Pushes pushBackOf pushBack
-back-pushes = record { keeps = back-same; good = λ r w g. push-back-good w r g; adds = λ r w z. push-back-held w r z }
+back-pushes = record { good = λ r w g. push-back-good w r g; adds = λ r w z. push-back-held w r z }
 
 pub front-pushes : Pushes pushFrontOf pushFront
-front-pushes = record { keeps = front-same; good = λ r w g. push-front-good w r g; adds = λ r w z. push-front-held w r z }
+front-pushes = record { good = λ r w g. push-front-good w r g; adds = λ r w z. push-front-held w r z }
 
 module _ (push : ℕ → Windows → Windows) (add : ℕ → List ℕ → List ℕ) (p : Pushes push add) (w : Windows) where
-  pub rate-same : (o : Option ℕ) (stale : Bool) → Same (pushRate push o stale w .state) (w .state)
-  unfolding pushRate
-  rate-same none stale = same (w .state)
-  rate-same (some r) true = same (w .state)
-  rate-same (some r) false = p .keeps r w
-
   pub rate-good : (o : Option ℕ) (stale : Bool) → Good w → Good (pushRate push o stale w)
   unfolding pushRate
   rate-good none stale g = g
@@ -82,15 +45,6 @@ module _ (push : ℕ → Windows → Windows) (add : ℕ → List ℕ → List �
   rate-held none stale g l = refl
   rate-held (some r) true g l = refl
   rate-held (some r) false g l = p .adds r w (accepts (w .state) _ _ _ (g .valid) (l refl))
-
-pub preload-same : (q n : ℕ) (o : Option ℕ) (stale : Bool) (w : Windows) → Same (preloadWindows q n o stale w .state) (w .state)
-unfolding preloadWindows
-preload-same q n o stale w = go (eqb q n) (eqb q 0)
-  where
-    go : (a c : Bool) → Same (cond a (pushRate pushBackOf o stale w) (cond c (pushRate pushFrontOf o stale w) w) .state) (w .state)
-    go true c = rate-same pushBackOf pushBack back-pushes w o stale
-    go false true = rate-same pushFrontOf pushFront front-pushes w o stale
-    go false false = same (w .state)
 
 -- ---- there is room, since unless stale the hurdles are rates of held rows
 

@@ -2,7 +2,7 @@
 use Prim.Native.Nat.{ℕ, _+_, _≤_, _<_}
 use mathlib.Core.Path.{_≡_, refl, sym, _∙_, ap, subst}
 use mathlib.Core.Bool.{Bool, true, false, cond}
-use mathlib.Core.List.{List, [], _∷_, _++_, map}
+use mathlib.Core.List.{List, _++_, map}
 use mathlib.Core.Option.{Option, none, some}
 use native.Mathlib.Omega.{arith}
 use lib.Dec.{ltb, eqb}
@@ -14,11 +14,12 @@ use Rattle.slices.proofs.Lists.{tabulate-at, tabulate-length, tabulate-same, ma
 use Rattle.rbitcoin_mempool.specs.declared.fee_analog.history.AnalogHistory.{AnalogHistory}
 use Rattle.rbitcoin_mempool.specs.Outcome.{verdictOf, done, refused}
 use Rattle.rbitcoin_mempool.specs.Rates.{marked, rateAt, numberOf, markOf, numbersOf, marksOf}
-use Rattle.rbitcoin_mempool.specs.Windows.{Windows, windows, heldIn, targetAt, pushAll, pushBackOf, emptied}
+use Rattle.rbitcoin_mempool.specs.Windows.{Windows, windows, heldIn, targetAt}
 use Rattle.rbitcoin_mempool.proofs.Kept.{Good, good-stored}
 use Rattle.rbitcoin_mempool.proofs.Reach.{tracked-rate}
 use Rattle.rbitcoin_mempool.proofs.Rebuilds.{rebuild-done, rebuild-good, rebuilt-held}
 use Rattle.rbitcoin_mempool.proofs.Refusals.{rebuilds, refusing}
+use Rattle.rbitcoin_mempool.specs.Reached.{SetUpAs}
 use Rattle.rbitcoin_net.specs.Map.{Entry}
 use Rattle.rbitcoin_net.specs.History.{found, confidenceOf, rateFor, hurdlesOf, rebuilt, answered, keep, ratesAnswer, afterRates, setRates, setStale, setHurdles}
 use Rattle.rbitcoin_net.specs.Lent.{Rows, Hashes, lent, rowAt, heldRows, heldHashes, keptRates, view, Sound}
@@ -26,24 +27,10 @@ use Rattle.rbitcoin_net.specs.Rates.{Rated, rated, windowsWith, lentTo, 
 use Rattle.rbitcoin_net.specs.Readers.{wrote}
 use Rattle.rbitcoin_net.specs.declared.fee_history.HistoricalFeeBlock.{HistoricalFeeBlock}
 use Rattle.rbitcoin_net.specs.declared.fee_history.FeeHistory.{FeeHistory}
-use Rattle.rbitcoin_net.proofs.Pushed.{Same, same, back-pushes, hurdles-few, sound-good}
+use Rattle.rbitcoin_net.proofs.Pushed.{hurdles-few, sound-good}
+use Rattle.rbitcoin_net.proofs.SetUps.{refreshed-set-up}
 use Rattle.rbitcoin_net.proofs.Rating.{numbers-are, marks-are}
 use Rattle.rbitcoin_net.proofs.Refusals.{Reach, Serves, serves, serves-lent, rates-fit}
-
--- ---- a rebuild has the same targets and the same size
-
-all-same : (xs : List ℕ) (w : Windows) → Same (pushAll xs w .state) (w .state)
-unfolding pushAll
-all-same [] w = same (w .state)
-all-same (x ∷ xs) w =
-    let f = all-same xs (pushBackOf x w) in
-    let g = back-pushes .keeps x w in
-    record { capacity = f .capacity ∙ g .capacity; tracked = f .tracked ∙ g .tracked; targets = f .targets ∙ g .targets }
-
-pub refreshed-same : (b : Bool) (es : List (Entry HistoricalFeeBlock)) (w : Windows) → Same (refreshed b es w .state) (w .state)
-unfolding refreshed
-refreshed-same true es w = let f = all-same (hurdlesOf es) (emptied w) in record { capacity = f .capacity; tracked = f .tracked; targets = f .targets }
-refreshed-same false es w = same (w .state)
 
 pub false-true : false ≡ true → ⊥
 false-true e = let f : _≡_ {A = ℕ} 0 1 = ap (λ b. cond b 1 0) e in omega arith
@@ -68,7 +55,7 @@ module _ (z : ℕ) (m : Rows) (x : Rated) where
       ∙ sym (fresh-is k)
 
   pub fresh-tracked : (a : AnalogHistory) (us : List ℕ) (bs : List Float) (ds : List ℕ) → windows a us bs ds ≡ refreshedIn m x → a .tracked ≡ x .state .analog .tracked
-  fresh-tracked a us bs ds e = ap (λ (w : Windows). w .state .tracked) e ∙ refreshed-same (x .state .«analog_stale») (heldRows m (x .state)) (windowsWith x) .tracked
+  fresh-tracked a us bs ds e = ap (λ (w : Windows). w .state .tracked) e ∙ refreshed-set-up (x .state .«analog_stale») (heldRows m (x .state)) (windowsWith x) .same-tracked
 
   pub fresh-scratch : (a : AnalogHistory) (us : List ℕ) (bs : List Float) (ds : List ℕ) → windows a us bs ds ≡ refreshedIn m x → ((d : ℕ) → d < x .state .analog .tracked → rateFrom (refreshedIn m x) z d ≡ none) → (d : ℕ) → d < a .tracked → rateFrom (windows a us bs ds) z d ≡ none
   fresh-scratch a us bs ds e h d l = ap (λ w. rateFrom w z d) e ∙ h d (subst (λ n. d < n) (fresh-tracked a us bs ds e) l)
@@ -79,7 +66,7 @@ module _ (z : ℕ) (m : Rows) (x : Rated) where
     where
       by : (b : Bool) → cond b x (answeredFrom z (refreshedIn m x) (x .state)) .state .analog .tracked ≡ x .state .analog .tracked
       by true = refl
-      by false = refreshed-same (x .state .«analog_stale») (heldRows m (x .state)) (windowsWith x) .tracked
+      by false = refreshed-set-up (x .state .«analog_stale») (heldRows m (x .state)) (windowsWith x) .same-tracked
 
 -- ---- kept rates are the rates
 
@@ -152,14 +139,14 @@ module _ (m : Rows) (z : Hashes) (x : Rated) (k : Sound (x .state) (lentTo m z x
   abbrev left : ℕ → Rated
   left p = answeredFrom p (refreshedIn m x) (x .state)
 
-  w-same : Same (refreshedIn m x .state) (x .state .analog)
-  w-same = refreshed-same (x .state .«analog_stale») (heldRows m (x .state)) (windowsWith x)
+  w-same : SetUpAs (x .state .analog) (refreshedIn m x .state)
+  w-same = refreshed-set-up (x .state .«analog_stale») (heldRows m (x .state)) (windowsWith x)
 
   left-serves : (p : ℕ) → Serves (left p .state) (lentTo m z (left p))
   unfolding answeredFrom
   left-serves p =
       let v = serves (x .state) (lentTo m z x) (k .lent) in
-      let c = w-same .capacity in
+      let c = w-same .same-capacity in
       record {
         rows-within = subst (λ n. x .state .start + x .state .count ≤ n) (sym c) (v .rows-within);
         hashes-few = v .hashes-few;
@@ -194,12 +181,12 @@ module _ (m : Rows) (z : Hashes) (x : Rated) (k : Sound (x .state) (lentTo m z x
     few = refreshed-holds .good .valid .few
 
     targets-same : tabulate (targetAt (refreshedIn m x .state)) 0 (refreshedIn m x .state .tracked) ≡ tabulate (targetAt (x .state .analog)) 0 (x .state .analog .tracked)
-    targets-same = λ i. tabulate (λ d. getD (w-same .targets i) d 0) 0 (w-same .tracked i)
+    targets-same = λ i. tabulate (λ d. getD (w-same .same-targets i) d 0) 0 (w-same .same-tracked i)
 
     left-answers : answersIn (left p .state) ≡ answered none (view (x .state) (lentTo m z x))
     unfolding view
     left-answers =
-        kept-rates p (refreshedIn m x) (x .state) few (refreshed-holds .good) (subst (λ n. n ≤ p) (sym (w-same .capacity)) y)
+        kept-rates p (refreshedIn m x) (x .state) few (refreshed-holds .good) (subst (λ n. n ≤ p) (sym (w-same .same-capacity)) y)
         ∙ (λ i. map (rateFor ((refreshed-holds .holds ∙ sym rebuilt-holds) i)) (targets-same i))
 
     left-view : view (left p .state) (lentTo m z (left p)) ≡ keep none (view (x .state) (lentTo m z x))
