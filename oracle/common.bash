@@ -1,4 +1,4 @@
-# What run, bench, profile and replay share. Sourced by them.
+# What run, faults, bench, profile and replay share. Sourced by them.
 
 oracle=$(cd "$(dirname "${BASH_SOURCE[0]}")" && pwd)
 root=$(dirname "$oracle")
@@ -17,13 +17,18 @@ check_part() {
     fail "unknown part '$1'; the parts are: ${parts[*]%.rs}"
 }
 
-# The Rattle static library, then the Rust programs that link it.
-build() {
+# The Rattle static library.
+build_library() {
     local tool
     for tool in rt cargo; do
         command -v "$tool" >/dev/null || fail "$tool is not installed, or not on the PATH"
     done
     (cd "$root" && rt staticlib exports) >&2 || fail "the static library was not built"
+}
+
+# The library, then the Rust programs that link it.
+build() {
+    build_library
     cargo build --release --offline --locked --manifest-path "$oracle/Cargo.toml" \
         --target-dir "$oracle/target" || fail "the Rust was not built"
 }
