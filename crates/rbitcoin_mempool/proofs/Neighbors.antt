@@ -1,4 +1,4 @@
--- The pairs in band and the distances, as they are collected: how each list grows, and what a list of pairs is made of. Assumes nothing.
+-- The pairs in band and the distances, as they are collected: how each list grows, and what a list of pairs is made of; and how distances are ordered. Assumes nothing.
 use mathlib.Core.Path.{_≡_, refl, sym, ap, ap₂, _∙_}
 use mathlib.Core.Bool.{Bool, true, false, not, _&&_, _||_}
 use mathlib.Core.List.{List, [], _∷_, _++_, map, map-append, append-assoc, append-nil}
@@ -176,7 +176,7 @@ module _ (now : Float) (ps : List Pair) (n : ℕ) (e : n ≡ length (outcomesInB
   unfolding neighbors
   enough h = sym (rw (← e, le-ltb n 200 h))
 
--- a lesser distance is one that IEEE 754 compares as less
+-- where neither is NaN, a lesser distance is one that IEEE 754 compares as less
 pub distance-order : (now : Float) (p q : Pair) → T (not (isNan (sub binary64 (p .before) now))) → T (not (isNan (sub binary64 (q .before) now)))
     → ltb (distance now p) (distance now q) ≡ lt (absOf (sub binary64 (p .before) now)) (absOf (sub binary64 (q .before) now))
 unfolding distance

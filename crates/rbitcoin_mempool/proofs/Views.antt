@@ -12,7 +12,7 @@ use lib.Dec.{eqb}
 use Rattle.rbitcoin_mempool.specs.Pairs.{popBack, popFront, pushBack, pushFront}
 use Rattle.rbitcoin_mempool.specs.declared.fee_analog.history.AnalogHistory.{AnalogHistory}
 use Rattle.rbitcoin_mempool.specs.Reached.{SetUpAs, popBackIn, popFrontIn}
-use Rattle.rbitcoin_mempool.specs.Windows.{Windows, at, freeOf, held, heldIn, movedTo, popped, pushBackOf, pushFrontOf, pushRefusalOf, roomBack, roomFront, stateRefusal, storeBack, storeFront, withPairs}
+use Rattle.rbitcoin_mempool.specs.Windows.{Windows, at, freeOf, held, heldIn, movedTo, popBackOf, popFrontOf, popped, pushBackOf, pushFrontOf, pushRefusalOf, roomBack, roomFront, stateRefusal, storeBack, storeFront, withPairs}
 use Rattle.rbitcoin_mempool.proofs.Parts.{held-all-back, held-all-front, held-back, held-front, held-moved}
 use Rattle.rbitcoin_mempool.proofs.Pushes.{OpenAt, ValidIn, push-done, room-open}
 use Rattle.rbitcoin_mempool.proofs.Refusals.{accepted, popped-none, popped-some, valid-state, zero-or-not}
@@ -120,7 +120,7 @@ push-front-set-up w x = by (eqb (pushRefusalOf w) 0) (eqb (w .state .start) 0)
     by true false = set-up (w .state) _ _
     by false b = same-set-up (w .state)
 
-pub popped-set-up : (start : ℕ) (s : AnalogHistory) → SetUpAs s (popped start s)
+popped-set-up : (start : ℕ) (s : AnalogHistory) → SetUpAs s (popped start s)
 unfolding popped
 popped-set-up start s = by (eqb (stateRefusal s) 0) (eqb (s .count) 0)
   where
@@ -128,3 +128,9 @@ popped-set-up start s = by (eqb (stateRefusal s) 0) (eqb (s .count) 0)
     by true true = same-set-up s
     by true false = set-up s _ _
     by false b = same-set-up s
+
+pub pop-back-set-up : (s : AnalogHistory) → SetUpAs s (popBackOf s)
+pop-back-set-up s = popped-set-up (s .start) s
+
+pub pop-front-set-up : (s : AnalogHistory) → SetUpAs s (popFrontOf s)
+pop-front-set-up s = popped-set-up (s .start + 1) s

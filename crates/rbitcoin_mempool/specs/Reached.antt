@@ -1,4 +1,4 @@
--- The windows that the public functions reach. Definitions only.
+-- The windows that the public functions reach, and what no call changes. Definitions only.
 use Prim.Native.Nat.{ℕ}
 use mathlib.Core.Path.{_≡_}
 use mathlib.Core.List.{List}

@@ -117,13 +117,10 @@ module _ (h : ℕ) (b : HistoricalFeeBlock) (hash : Option (List ℕ)) (small : 
   fitting : Fitting (left .count) h b m left pushed (left .«analog_stale»)
   fitting =
       let w = windowsOf left memory in
-      let k = rate-set-up pushBackOf push-back-set-up (hurdleOf b) (left .«analog_stale») w in
       let g = sound-good left memory left-sound in
       record {
         good = rate-good pushBackOf pushBack back-pushes w (hurdleOf b) (left .«analog_stale») g;
-        capacity = k .same-capacity;
-        tracked = k .same-tracked;
-        targets = k .same-targets;
+        set-up = rate-set-up pushBackOf push-back-set-up (hurdleOf b) (left .«analog_stale») w;
         hurdles = λ st. rate-held pushBackOf pushBack back-pushes w (hurdleOf b) (left .«analog_stale») g (windows-room left memory left-sound room) ∙ behind-hurdles h b m left (left .«analog_stale») (heldIn w) st (left-sound .hurdles st);
       }
 

@@ -29,7 +29,7 @@ use Rattle.rbitcoin_net.proofs.Tables.{Parts, table-split, ascends-at, 
 use Rattle.rbitcoin_net.proofs.Search.{place-parts, place-is}
 use Rattle.rbitcoin_net.proofs.Hashes.{hash-place-is}
 use Rattle.rbitcoin_net.proofs.Refusals.{Within, within, state-taken, lent-parts, windows-valid, lent-again}
-use Rattle.rbitcoin_net.proofs.SetUps.{back-set-up, drop-set-up, rows-set-up}
+use Rattle.rbitcoin_net.proofs.SetUps.{drop-set-up}
 use Rattle.rbitcoin_net.proofs.CutViews.{forgets-good, forgets-view, hash-parts, cut-is, cut-view}
 
 -- ---- the hurdles of rows
@@ -115,7 +115,7 @@ module _ (m : Rows) (z : Hashes) (us : List ℕ) (bs : List Float) (ds : List �
       let w = state-was in
       let p = parts in
       let q = hash-place in
-      let c = rows-set-up popBackOf back-set-up m dropped place s .same-windows .same-capacity in
+      let c = drop-set-up k m z s .same-windows .same-capacity in
       sym (state-taken (dropFrom k m z s) 0 (sym (valid-state (left .analog) _ _ _ (left-good .valid))) refl (omega (arith, p .low, p .high, w .rows)) (omega (arith, q .high, w .hashes)))
 
   low-high : heldRows m s ≡ tabulate (rowAt m) (s .start) (place - s .start) ++ tabulate (rowAt m) place dropped
@@ -136,7 +136,7 @@ module _ (m : Rows) (z : Hashes) (us : List ℕ) (bs : List Float) (ds : List �
       let p = parts in
       let q = hash-place in
       record {
-        lent = lent-again s (dropFrom k m z s) memory (drop-set-up k m z s .same-windows .same-capacity) (drop-set-up k m z s .same-windows .same-tracked) state-is (x .lent);
+        lent = lent-again s (dropFrom k m z s) memory (drop-set-up k m z s .same-windows) state-is (x .lent);
         ascends = ascends-of (rowAt m) (place - s .start) (s .start) (λ i j l o r. ascends-at (rowAt m) (s .count) (s .start) (x .ascends) i j l o (omega (arith, p .low, p .high)));
         hashes-ascend = ascends-of (hashAt z) (hashPlace k (hashList (s .hashes) z)) 0 (λ i j l o r. ascends-at (hashAt z) (s .hashes) 0 (x .hashes-ascend) i j l o (omega (arith, q .high)));
         stored = good-stored (windowsOf left memory) left-good;

@@ -1,4 +1,4 @@
--- What a cut means: the view after it is the Rust's `truncate_above` of the view before, and a sound state stays sound. Assumes nothing.
+-- What a cut means: the view after it is the Rust's `truncate_above` of the view before. Assumes nothing.
 use Prim.Native.Nat.{ℕ, zero, suc, _+_, _-_}
 use mathlib.Core.Path.{_≡_, refl, sym, _∙_, ap}
 use mathlib.Core.Bool.{Bool, true, false, cond, not, _&&_}
@@ -14,9 +14,10 @@ use Rattle.rbitcoin_mempool.specs.declared.answer.Rate.the-variants.{There, Mis
 use Rattle.rbitcoin_mempool.specs.declared.fee_analog.history.AnalogHistory.{AnalogHistory}
 use Rattle.rbitcoin_mempool.specs.Pairs.{popBack}
 use Rattle.rbitcoin_mempool.specs.Rates.{given, rateAt}
+use Rattle.rbitcoin_mempool.specs.Reached.{SetUpAs as WindowsSetUpAs}
 use Rattle.rbitcoin_mempool.specs.Windows.{windows, heldIn, popBackOf}
 use Rattle.rbitcoin_mempool.proofs.Kept.{Good, pop-back-good}
-use Rattle.rbitcoin_mempool.proofs.Views.{pop-back-held}
+use Rattle.rbitcoin_mempool.proofs.Views.{pop-back-held, pop-back-set-up}
 use Rattle.rbitcoin_net.specs.declared.fee_history.HistoricalFeeBlock.{HistoricalFeeBlock}
 use Rattle.rbitcoin_net.specs.declared.fee_history.FeeHistory.{FeeHistory}
 use Rattle.rbitcoin_net.specs.Map.{Entry, Ascends, below, onward, isSome}
@@ -28,7 +29,6 @@ use Rattle.rbitcoin_net.specs.Cuts.{withSums, forgetRow, forgetRows, cut
 use Rattle.rbitcoin_net.proofs.Tables.{Parts, ascends-rising, below-table, onward-table}
 use Rattle.rbitcoin_net.proofs.Search.{place-parts, bisect-parts}
 use Rattle.rbitcoin_net.proofs.Search.{at as element}
-use Rattle.rbitcoin_net.proofs.SetUps.{back-set-up}
 
 -- ---- the Rust's side
 
@@ -82,10 +82,10 @@ module _ (m : Rows) (z : Hashes) (us : List ℕ) (bs : List Float) (ds : List �
   }
 
   -- a forgotten row, at either end
-  pub forget-view-by : (popOf : AnalogHistory → AnalogHistory) (pop : List ℕ → List ℕ) (i : ℕ) (s : FeeHistory) → popOf (s .analog) .tracked ≡ s .analog .tracked → popOf (s .analog) .targets ≡ s .analog .targets
+  pub forget-view-by : (popOf : AnalogHistory → AnalogHistory) (pop : List ℕ → List ℕ) (i : ℕ) (s : FeeHistory) → WindowsSetUpAs (s .analog) (popOf (s .analog))
       → heldIn (windows (popOf (s .analog)) us bs ds) ≡ pop (heldIn (windowsOf s memory)) → view (forgetRow popOf (getD (m .marks) i 0) (getD (m .sizes) i 0) s) memory ≡ forget pop (blockAt m i) (view s memory)
   unfolding view forgetRow forget
-  forget-view-by popOf pop i s e d h =
+  forget-view-by popOf pop i s u h =
       go (eqb (getD (m .marks) i 0) 1 && not (s .«analog_stale»))
       ∙ ap (λ (t : Bool). setHurdles (cond (t && not (s .«analog_stale»)) (pop (heldIn (windowsOf s memory))) (heldIn (windowsOf s memory))) (setTotal total (view s memory))) (sym (rated (eqb (getD (m .marks) i 0) 1) (getD (m .rates) i 0)))
     where
@@ -93,11 +93,11 @@ module _ (m : Rows) (z : Hashes) (us : List ℕ) (bs : List Float) (ds : List �
       total = saturatingSub (s .«txstat_bytes») (getD (m .sizes) i 0)
 
       go : (b : Bool) → view (withSums (cond b (popOf (s .analog)) (s .analog)) total s) memory ≡ setHurdles (cond b (pop (heldIn (windowsOf s memory))) (heldIn (windowsOf s memory))) (setTotal total (view s memory))
-      go true = view-sums (popOf (s .analog)) total (pop (heldIn (windowsOf s memory))) s e d h
+      go true = view-sums (popOf (s .analog)) total (pop (heldIn (windowsOf s memory))) s (u .same-tracked) (u .same-targets) h
       go false = view-sums (s .analog) total (heldIn (windowsOf s memory)) s refl refl refl
 
   forget-view : (i : ℕ) (s : FeeHistory) → Good (windowsOf s memory) → view (forgetRow popBackOf (getD (m .marks) i 0) (getD (m .sizes) i 0) s) memory ≡ forget popBack (blockAt m i) (view s memory)
-  forget-view i s g = forget-view-by popBackOf popBack i s (back-set-up (s .analog) .same-tracked) (back-set-up (s .analog) .same-targets) (pop-back-held (windowsOf s memory) (g .valid))
+  forget-view i s g = forget-view-by popBackOf popBack i s (pop-back-set-up (s .analog)) (pop-back-held (windowsOf s memory) (g .valid))
 
   forget-good : (mark size : ℕ) (s : FeeHistory) → Good (windowsOf s memory) → Good (windowsOf (forgetRow popBackOf mark size s) memory)
   unfolding forgetRow

@@ -12,7 +12,7 @@ use Rattle.slices.specs.Lists.{tabulate}
 use Rattle.rbitcoin_mempool.specs.Pairs.{popFront}
 use Rattle.rbitcoin_mempool.specs.Windows.{windows, popFrontOf}
 use Rattle.rbitcoin_mempool.proofs.Kept.{Good, pop-front-good}
-use Rattle.rbitcoin_mempool.proofs.Views.{pop-front-held}
+use Rattle.rbitcoin_mempool.proofs.Views.{pop-front-held, pop-front-set-up}
 use Rattle.rbitcoin_net.specs.declared.fee_history.HistoricalFeeBlock.{HistoricalFeeBlock}
 use Rattle.rbitcoin_net.specs.declared.fee_history.FeeHistory.{FeeHistory}
 use Rattle.rbitcoin_net.specs.Map.{Entry, Ascends}
@@ -22,7 +22,6 @@ use Rattle.rbitcoin_net.specs.Hashes.{hashList, Room, removeHash}
 use Rattle.rbitcoin_net.specs.Cuts.{withSums, unkept, forgetRow}
 use Rattle.rbitcoin_net.specs.Evictions.{Hashed, hashed, evictRow, evictOldest, evictRows, evictIn}
 use Rattle.rbitcoin_net.proofs.CutViews.{forget-view-by}
-use Rattle.rbitcoin_net.proofs.SetUps.{front-set-up}
 use Rattle.rbitcoin_net.proofs.Evictions.{remove-room}
 use Rattle.rbitcoin_net.proofs.HashViews.{remove-view, remove-ascends}
 
@@ -52,7 +51,7 @@ module _ (m : Rows) (us : List ℕ) (bs : List Float) (ds : List ℕ) where
     unfolding evictOne forget view
     one-view ps =
         one-fields ps
-        ∙ (λ i. setBlocks ps (setHashes (remove-view height (hashList (s .hashes) z) (x .room) (x .ascends) i) (forget-view-by m z us bs ds popFrontOf popFront (s .start) s (front-set-up (s .analog) .same-tracked) (front-set-up (s .analog) .same-targets) (pop-front-held (windowsOf s (with z)) (x .good .valid)) i)))
+        ∙ (λ i. setBlocks ps (setHashes (remove-view height (hashList (s .hashes) z) (x .room) (x .ascends) i) (forget-view-by m z us bs ds popFrontOf popFront (s .start) s (pop-front-set-up (s .analog)) (pop-front-held (windowsOf s (with z)) (x .good .valid)) i)))
 
     pub one-good : Good (windowsOf (next .state) (with (next .hashes)))
     unfolding evictRow forgetRow

@@ -196,8 +196,7 @@ module _ (h : â„•) (b : HistoricalFeeBlock) (m : Rows) (z : Hashes) (us : List â
 
   pub preload-fitting : Fitting q h b m (unkept s) (preloadWindows q (s .count) o st w) (preloadStale q (s .count) o st)
   preload-fitting =
-      let k = preload-windows-set-up q (s .count) o st w in
-      record { good = changed-good; capacity = k .same-capacity; tracked = k .same-tracked; targets = k .same-targets; hurdles = changed-hurdles }
+      record { good = changed-good; set-up = preload-windows-set-up q (s .count) o st w; hurdles = changed-hurdles }
 
 -- ---- a preload of an absent height
 

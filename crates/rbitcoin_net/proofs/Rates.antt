@@ -11,6 +11,7 @@ use lib.ListN.{length, getD, drop}
 use borrow.Author.Tests.{lt-ltb, eq-eqb, ne-eqb}
 use Rattle.slices.specs.Lists.{tabulate}
 use Rattle.slices.proofs.Lists.{tabulate-at, tabulate-length, tabulate-same, map-table}
+use Rattle.rbitcoin_mempool.specs.Reached.{SetUpAs}
 use Rattle.rbitcoin_mempool.specs.declared.fee_analog.history.AnalogHistory.{AnalogHistory}
 use Rattle.rbitcoin_mempool.specs.Outcome.{verdictOf, done, refused}
 use Rattle.rbitcoin_mempool.specs.Rates.{marked, rateAt, numberOf, markOf, numbersOf, marksOf}
@@ -19,16 +20,13 @@ use Rattle.rbitcoin_mempool.proofs.Kept.{Good, good-stored}
 use Rattle.rbitcoin_mempool.proofs.Reach.{tracked-rate}
 use Rattle.rbitcoin_mempool.proofs.Rebuilds.{rebuild-done, rebuild-good, rebuilt-held}
 use Rattle.rbitcoin_mempool.proofs.Refusals.{rebuilds, refusing}
-use Rattle.rbitcoin_mempool.specs.Reached.{SetUpAs}
-use Rattle.rbitcoin_net.specs.Map.{Entry}
 use Rattle.rbitcoin_net.specs.History.{found, confidenceOf, rateFor, hurdlesOf, rebuilt, answered, keep, ratesAnswer, afterRates, setRates, setStale, setHurdles}
 use Rattle.rbitcoin_net.specs.Lent.{Rows, Hashes, lent, rowAt, heldRows, heldHashes, keptRates, view, Sound}
 use Rattle.rbitcoin_net.specs.Rates.{Rated, rated, windowsWith, lentTo, refreshed, refreshedIn, rateFrom, slots, keeping, answeredFrom, ratesIn, answersIn, Outputs, refusalFor, AnswersRates}
 use Rattle.rbitcoin_net.specs.Readers.{wrote}
-use Rattle.rbitcoin_net.specs.declared.fee_history.HistoricalFeeBlock.{HistoricalFeeBlock}
 use Rattle.rbitcoin_net.specs.declared.fee_history.FeeHistory.{FeeHistory}
 use Rattle.rbitcoin_net.proofs.Pushed.{hurdles-few, sound-good}
-use Rattle.rbitcoin_net.proofs.SetUps.{refreshed-set-up}
+use Rattle.rbitcoin_net.proofs.SetUps.{rates-set-up, refreshed-set-up}
 use Rattle.rbitcoin_net.proofs.Rating.{numbers-are, marks-are}
 use Rattle.rbitcoin_net.proofs.Refusals.{Reach, Serves, serves, serves-lent, rates-fit}
 
@@ -61,12 +59,7 @@ module _ (z : ℕ) (m : Rows) (x : Rated) where
   fresh-scratch a us bs ds e h d l = ap (λ w. rateFrom w z d) e ∙ h d (subst (λ n. d < n) (fresh-tracked a us bs ds e) l)
 
   pub rates-tracked : (y : Rated) → y ≡ ratesIn z m x → y .state .analog .tracked ≡ x .state .analog .tracked
-  unfolding ratesIn answeredFrom
-  rates-tracked y e = ap (λ (r : Rated). r .state .analog .tracked) e ∙ by (x .state .kept)
-    where
-      by : (b : Bool) → cond b x (answeredFrom z (refreshedIn m x) (x .state)) .state .analog .tracked ≡ x .state .analog .tracked
-      by true = refl
-      by false = refreshed-set-up (x .state .«analog_stale») (heldRows m (x .state)) (windowsWith x) .same-tracked
+  rates-tracked y e = ap (λ (r : Rated). r .state .analog .tracked) e ∙ rates-set-up z m x .same-windows .same-tracked
 
 -- ---- kept rates are the rates
 
@@ -101,9 +94,6 @@ module _ (z : ℕ) (w : Windows) (s : FeeHistory) (few : w .state .tracked ≤ 1
 module _ (m : Rows) (z : Hashes) (x : Rated) (k : Sound (x .state) (lentTo m z x)) where
   abbrev s : FeeHistory
   s = x .state
-
-  abbrev es : List (Entry HistoricalFeeBlock)
-  es = heldRows m (x .state)
 
   rates-few : length (hurdlesOf (heldRows m (x .state))) ≤ x .state .analog .capacity
   unfolding heldRows

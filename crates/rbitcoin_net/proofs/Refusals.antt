@@ -8,6 +8,7 @@ use lib.Dec.{ltb, eqb}
 use lib.ListN.{length}
 use borrow.Author.Tests.{lt-ltb, le-ltb, ltb-false, eq-eqb, eqb-true}
 use Rattle.rbitcoin_mempool.specs.declared.fee_analog.history.AnalogHistory.{AnalogHistory}
+use Rattle.rbitcoin_mempool.specs.Reached.{SetUpAs as WindowsSetUpAs}
 use Rattle.rbitcoin_mempool.specs.Windows.{orElse, Valid}
 use Rattle.rbitcoin_mempool.specs.Windows.{stateRefusal as windowsRefusal, sizeRefusal as windowsSizeRefusal, lentRefusal as windowsLentRefusal}
 use Rattle.rbitcoin_mempool.proofs.Refusals.{then-second, or-else-first, or-else-second, zero-or-not, valid-state}
@@ -164,19 +165,22 @@ windows-valid s m e =
     windows-lent (s .analog) _ _ _ (or-else-second (windowsRefusal (s .analog)) _ w ∙ p .windows)
 
 -- memory that served one state serves another of the same capacity and as many targets
-sizes-again : (s t : AnalogHistory) (h b a : ℕ) → t .capacity ≡ s .capacity → t .tracked ≡ s .tracked → windowsSizeRefusal t h b a ≡ windowsSizeRefusal s h b a
+sizes-again : (s t : AnalogHistory) (h b a : ℕ) → WindowsSetUpAs s t → windowsSizeRefusal t h b a ≡ windowsSizeRefusal s h b a
 unfolding windowsSizeRefusal
-sizes-again s t h b a c k = λ i. cond (ltb h (c i)) 5 (cond (ltb b (k i * c i)) 5 (cond (ltb a (k i * c i)) 5 0))
+sizes-again s t h b a u =
+    let c = u .same-capacity in
+    let k = u .same-tracked in
+    λ i. cond (ltb h (c i)) 5 (cond (ltb b (k i * c i)) 5 (cond (ltb a (k i * c i)) 5 0))
 
-pub lent-again : (s t : FeeHistory) (m : Lent) → t .analog .capacity ≡ s .analog .capacity → t .analog .tracked ≡ s .analog .tracked → stateRefusal t ≡ 0 → lentRefusal s m ≡ 0 → lentRefusal t m ≡ 0
-lent-again s t m c k z e =
+pub lent-again : (s t : FeeHistory) (m : Lent) → WindowsSetUpAs (s .analog) (t .analog) → stateRefusal t ≡ 0 → lentRefusal s m ≡ 0 → lentRefusal t m ≡ 0
+lent-again s t m u z e =
     let p = lent-parts s m e in
     parts-lent t m
     record {
       state = z;
-      rows = ap (λ j. rowsRefusal j (length (m .rows .heights)) (length (m .rows .marks)) (length (m .rows .rates)) (length (m .rows .sizes))) c ∙ p .rows;
+      rows = ap (λ j. rowsRefusal j (length (m .rows .heights)) (length (m .rows .marks)) (length (m .rows .rates)) (length (m .rows .sizes))) (u .same-capacity) ∙ p .rows;
       hashes = p .hashes;
-      windows = sizes-again (s .analog) (t .analog) (length (m .hurdles)) (length (m .befores)) (length (m .aheads)) c k ∙ p .windows;
+      windows = sizes-again (s .analog) (t .analog) (length (m .hurdles)) (length (m .befores)) (length (m .aheads)) u ∙ p .windows;
     }
 
 -- what memory that serves a state gives, and is

@@ -9,6 +9,7 @@ use lib.Ieee.{Float}
 use lib.ListN.{length, getD}
 use Rattle.num.specs.Word.{saturatingAdd}
 use Rattle.slices.specs.Lists.{tabulate}
+use Rattle.rbitcoin_mempool.specs.Reached.{SetUpAs as WindowsSetUpAs}
 use Rattle.rbitcoin_mempool.specs.Rates.{rateAt, markOf, numberOf}
 use Rattle.rbitcoin_mempool.specs.Windows.{Windows, heldIn}
 use Rattle.rbitcoin_mempool.proofs.Kept.{Good, good-stored}
@@ -41,9 +42,7 @@ withRow q h b m s = tabulate (rowAt m) (s .start) q ++ entry h b ∷ tabulate (r
 -- windows that go with a state and its new row
 pub record Fitting (q h : ℕ) (b : HistoricalFeeBlock) (m : Rows) (s : FeeHistory) (w : Windows) (stale : Bool) : Type 0 where
   pub good : Good w
-  pub capacity : w .state .capacity ≡ s .analog .capacity
-  pub tracked : w .state .tracked ≡ s .analog .tracked
-  pub targets : w .state .targets ≡ s .analog .targets
+  pub set-up : WindowsSetUpAs (s .analog) (w .state)
   pub hurdles : stale ≡ false → heldIn w ≡ hurdlesOf (withRow q h b m s)
 
 module _ (q h : ℕ) (b : HistoricalFeeBlock) (m : Rows) (z : Hashes) (us : List ℕ) (bs : List Float) (ds : List ℕ) (s : FeeHistory) (x : Sound s (lent m z us bs ds))
@@ -66,7 +65,7 @@ module _ (q h : ℕ) (b : HistoricalFeeBlock) (m : Rows) (z : Hashes) (us : List
 
   roomy : Roomy q before (length (m .heights)) (length (m .marks)) (length (m .rates)) (length (m .sizes))
   roomy =
-      let c = f .capacity in
+      let c = f .set-up .same-capacity in
       let v = served in
       let r = v .rows-reach in
       let p = parts in
@@ -100,11 +99,11 @@ module _ (q h : ℕ) (b : HistoricalFeeBlock) (m : Rows) (z : Hashes) (us : List
     blocks = rows-after i;
     total = saturatingAdd (s .«txstat_bytes») (b .«txstat_bytes»);
     budget = s .budget;
-    targets = tabulate (λ k. getD (f .targets i) k 0) 0 (f .tracked i);
+    targets = tabulate (λ k. getD (f .set-up .same-targets i) k 0) 0 (f .set-up .same-tracked i);
     hashes = heldHashes z s;
     hurdles = heldIn w;
     stale = stale;
-    rates = cond (s .kept) (some (tabulate (rateAt (s .«kept_numbers») (s .«kept_marks»)) 0 (f .tracked i))) none;
+    rates = cond (s .kept) (some (tabulate (rateAt (s .«kept_numbers») (s .«kept_marks»)) 0 (f .set-up .same-tracked i))) none;
   }
 
   after-serves : Serves (after .state) memory

@@ -1,11 +1,11 @@
--- A run of calls, each on what the one before left. Definitions only.
+-- A run of calls, each on what the one before left, and what is the same before and after. Definitions only.
 use Prim.Native.Nat.{ℕ, _^_, _<_}
 use mathlib.Core.Path.{_≡_}
 use mathlib.Core.Bool.{cond}
 use mathlib.Core.List.{List, [], _∷_}
 use mathlib.Core.Option.{Option}
 use lib.Dec.{eqb}
-use Rattle.rbitcoin_mempool.specs.Reached.{SetUpAs}
+use Rattle.rbitcoin_mempool.specs.Reached.{SetUpAs as WindowsSetUpAs}
 use Rattle.rbitcoin_net.specs.Map.{below, containsKey, insert}
 use Rattle.rbitcoin_net.specs.Lent.{Lent, view}
 use Rattle.rbitcoin_net.specs.Hashes.{Whole32}
@@ -45,9 +45,9 @@ runIn [] x = x
 runIn (c ∷ cs) x = runIn cs (callIn c x)
 
 -- t has the budget of s, its targets and its capacity, which an opening sets
-pub record SetUp (s t : FeeHistory) : Type 0 where
+pub record SetUpAs (s t : FeeHistory) : Type 0 where
   pub same-budget : t .budget ≡ s .budget
-  pub same-windows : SetUpAs (s .analog) (t .analog)
+  pub same-windows : WindowsSetUpAs (s .analog) (t .analog)
 
 -- heights are u32, and a hash that is there has 32 bytes
 abbrev pub InRange32 : Call → Type 0

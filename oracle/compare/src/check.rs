@@ -196,7 +196,7 @@ struct Region {
     /// Differences that have no distance: a NaN on one side, or lists of different lengths.
     apart: u64,
     largest: Option<(u64, Difference)>,
-    /// Where a difference fails the run.
+    /// Kept only where a difference fails the run.
     smallest: Option<Difference>,
 }
 
@@ -335,8 +335,8 @@ pub fn run(part: &str, jobs: Vec<Job>, seed: u64) -> Count {
     print_differences(part, &tallies)
 }
 
-/// The cases, and the differences that fail the run: those with the patched Rust, and with the published one where no
-/// stand-in is concerned.
+/// The cases, and the differences that fail the run: those with the patched Rust, and those with the
+/// published one where no stand-in is concerned. A case that differs from both counts twice.
 fn print_differences(part: &str, tallies: &[Tally]) -> Count {
     let mut failing = Count::default();
     let mut upstream = Count::default();
@@ -475,6 +475,13 @@ mod tests {
         assert!(words::same(&smallest.rattle, &1_u64.words()));
         assert!(words::same(&smallest.rust, &2_u64.words()));
         assert_eq!(print_differences("failing", &[failing]).differences, 41);
+    }
+
+    #[test]
+    fn a_case_that_differs_from_both_counts_twice() {
+        let tally = tally(BROKEN.same_upstream(BROKEN.patched));
+        assert_eq!(tally.differences, 41);
+        assert_eq!(print_differences("both", &[tally]).differences, 82);
     }
 
     #[test]
