@@ -34,6 +34,10 @@ apply() { # EDIT FOLDER PATTERN WORDS
             ;;
         'file: '* | '')
             [[ $last != new ]] || apply_pair || return 0
+            [[ $last != old ]] || {
+                echo "an 'old:' text has no 'new:' after it"
+                return 0
+            }
             [[ -z $line ]] || file=${line#file: }
             last=''
             ;;

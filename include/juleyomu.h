@@ -292,11 +292,13 @@ JuleyomuUpdateFields juleyomu_windows_rebuild(JuleyomuAnalogHistory state, const
                                               double *befores, size_t befores_len, uint64_t *aheads,
                                               size_t aheads_len);
 
-/* How many pairs a target of n blocks has; 0 for a target that is not tracked. Refuses 3, 5. */
+/* How many pairs a target of n blocks has (0 blocks count as 1); 0 for a target that is not tracked.
+ * Refuses 3, 5. */
 JuleyomuCountFields juleyomu_windows_pairs(JuleyomuAnalogHistory state, uint32_t n);
 
 /* The quantile `confidence`, in logarithms, of what the windows like now asked for within n blocks; no rate
- * under 2,000 pairs, for a target that is not tracked, or where `confidence` is NaN or outside 0 to 1.
+ * under 2,000 pairs, for a target that is not tracked (0 blocks count as 1), or where `confidence` is NaN or
+ * outside 0 to 1.
  * `scratch` has at least `capacity` places; all of it may be overwritten where there is a rate. Refuses 3, 5. */
 JuleyomuRateFields juleyomu_windows_rate_sat_kvb(JuleyomuAnalogHistory state, uint32_t n,
                                                  double confidence, const uint64_t *hurdles,
@@ -385,7 +387,7 @@ JuleyomuCountFields juleyomu_history_recent_hashes(JuleyomuFeeHistory state, con
 
 /* ---- Depth rates and targets ---- */
 
-/* The weight of the live flow beside history at n blocks: exp(-(n - 1) / 6). */
+/* The weight of the live flow beside history at n blocks, at least one: exp(-(n - 1) / 6). */
 double juleyomu_blend_weight(uint32_t n);
 
 /* The flow's rate at n blocks: the greater of projected and frontier; projected alone up to 5 blocks. */

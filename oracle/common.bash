@@ -11,7 +11,7 @@ fail() {
 
 # Each part is a file of the comparison.
 check_part() {
-    [[ -f $oracle/compare/src/parts/$1.rs ]] && return
+    [[ $1 =~ ^[a-z_]+$ && -f $oracle/compare/src/parts/$1.rs ]] && return
     local parts=("$oracle"/compare/src/parts/*.rs)
     parts=("${parts[@]##*/}")
     fail "unknown part '$1'; the parts are: ${parts[*]%.rs}"

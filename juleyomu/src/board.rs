@@ -17,8 +17,8 @@ pub struct DepthInputs<'a> {
     pub history: &'a [Option<u64>],
     /// What was enough lately: up to one block, a floor of the warm rate once the share is finite and above 0.
     pub confirm: Option<u64>,
-    /// The warm-up share: history alone at 0, the live pool and history at 1. What is outside is held within; NaN and
-    /// infinities count as 0.
+    /// The warm-up share: history, raised by the frontier, at 0; the live pool and history at 1. What is outside is held
+    /// within; NaN and infinities count as 0.
     pub share: f64,
 }
 

@@ -1,4 +1,4 @@
--- The bits of floats that are not negative are ordered as the floats; the bits of a magnitude, and that they are ordered as the magnitudes of numbers are. Assumes nothing.
+-- The bits of floats that are not negative are ordered as the floats, and so are the bits of magnitudes of which none is NaN. Assumes nothing.
 use mathlib.Core.Path.{_≡_, refl, sym, ap, subst, _∙_}
 use mathlib.Core.Bool.{Bool, true, false, not, _&&_, true≢false}
 use mathlib.Core.Logic.{⊎-elim}

@@ -11,7 +11,7 @@ use lib.ListN.{length, getD, drop}
 use borrow.Author.Tests.{lt-ltb, eq-eqb, ne-eqb}
 use Rattle.slices.specs.Lists.{tabulate}
 use Rattle.slices.proofs.Lists.{tabulate-at, tabulate-length, tabulate-same, map-table}
-use Rattle.rbitcoin_mempool.specs.Reached.{SetUpAs}
+use Rattle.rbitcoin_mempool.specs.Reached.{SetUpAs as WindowsSetUpAs}
 use Rattle.rbitcoin_mempool.specs.declared.fee_analog.history.AnalogHistory.{AnalogHistory}
 use Rattle.rbitcoin_mempool.specs.Outcome.{verdictOf, done, refused}
 use Rattle.rbitcoin_mempool.specs.Rates.{marked, rateAt, numberOf, markOf, numbersOf, marksOf}
@@ -129,14 +129,14 @@ module _ (m : Rows) (z : Hashes) (x : Rated) (k : Sound (x .state) (lentTo m z x
   abbrev left : ℕ → Rated
   left p = answeredFrom p (refreshedIn m x) (x .state)
 
-  w-same : SetUpAs (x .state .analog) (refreshedIn m x .state)
-  w-same = refreshed-set-up (x .state .«analog_stale») (heldRows m (x .state)) (windowsWith x)
+  w-set-up : WindowsSetUpAs (x .state .analog) (refreshedIn m x .state)
+  w-set-up = refreshed-set-up (x .state .«analog_stale») (heldRows m (x .state)) (windowsWith x)
 
   left-serves : (p : ℕ) → Serves (left p .state) (lentTo m z (left p))
   unfolding answeredFrom
   left-serves p =
       let v = serves (x .state) (lentTo m z x) (k .lent) in
-      let c = w-same .same-capacity in
+      let c = w-set-up .same-capacity in
       record {
         rows-within = subst (λ n. x .state .start + x .state .count ≤ n) (sym c) (v .rows-within);
         hashes-few = v .hashes-few;
@@ -171,12 +171,12 @@ module _ (m : Rows) (z : Hashes) (x : Rated) (k : Sound (x .state) (lentTo m z x
     few = refreshed-holds .good .valid .few
 
     targets-same : tabulate (targetAt (refreshedIn m x .state)) 0 (refreshedIn m x .state .tracked) ≡ tabulate (targetAt (x .state .analog)) 0 (x .state .analog .tracked)
-    targets-same = λ i. tabulate (λ d. getD (w-same .same-targets i) d 0) 0 (w-same .same-tracked i)
+    targets-same = λ i. tabulate (λ d. getD (w-set-up .same-targets i) d 0) 0 (w-set-up .same-tracked i)
 
     left-answers : answersIn (left p .state) ≡ answered none (view (x .state) (lentTo m z x))
     unfolding view
     left-answers =
-        kept-rates p (refreshedIn m x) (x .state) few (refreshed-holds .good) (subst (λ n. n ≤ p) (sym (w-same .same-capacity)) y)
+        kept-rates p (refreshedIn m x) (x .state) few (refreshed-holds .good) (subst (λ n. n ≤ p) (sym (w-set-up .same-capacity)) y)
         ∙ (λ i. map (rateFor ((refreshed-holds .holds ∙ sym rebuilt-holds) i)) (targets-same i))
 
     left-view : view (left p .state) (lentTo m z (left p)) ≡ keep none (view (x .state) (lentTo m z x))

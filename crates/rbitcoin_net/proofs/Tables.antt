@@ -174,14 +174,6 @@ module _ {A : Type 0} (f : ℕ → Entry A) where
         ∙ retain-append t (tabulate f a (p - a)) (tabulate f p (a + n - p))
         ∙ (λ j. none-kept t f (p - a) a (λ i l m. lt-leb k (key i) (lo-keys i l m)) j ++ all-kept t f (a + n - p) p (λ i l m. le-leb k (key i) (hi-keys i l m)) j)
 
-    pub above-table : ((i : ℕ) → p ≤ i → i < a + n → k < key i) → above k (tabulate f a n) ≡ tabulate f p (a + n - p)
-    unfolding above
-    above-table more =
-        let t : Entry A → Bool = λ e. ltb k (e .key) in
-        ap (retain t) two
-        ∙ retain-append t (tabulate f a (p - a)) (tabulate f p (a + n - p))
-        ∙ (λ j. none-kept t f (p - a) a (λ i l m. le-ltb k (key i) (omega (arith, lo-keys i l m))) j ++ all-kept t f (a + n - p) p (λ i l m. lt-ltb k (key i) (more i l (omega (arith, parts .high)))) j)
-
   -- ---- `get`
 
   module _ (k : ℕ) where
