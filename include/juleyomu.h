@@ -38,13 +38,14 @@ extern "C" {
 #define JULEYOMU_REFUSAL_LENGTHS 1
 /* A depth is less than the one before it. Asked after JULEYOMU_REFUSAL_MARK. */
 #define JULEYOMU_REFUSAL_DEPTHS 2
-/* More than JULEYOMU_MAX_TARGETS targets at an opening. */
+/* More than JULEYOMU_MAX_TARGETS targets, at an opening or in a state that no call returned. */
 #define JULEYOMU_REFUSAL_TARGETS 3
 /* No room: a connect above held heights that fill the capacity, a preload of an absent height into a full
  * history, a push onto full windows, a rebuild longer than the capacity. */
 #define JULEYOMU_REFUSAL_FULL 4
-/* A capacity above JULEYOMU_MAX_CAPACITY, a lent list shorter than the capacity asks for, or an output
- * list shorter than the answer. Asked after 3 and before 4. */
+/* A capacity above JULEYOMU_MAX_CAPACITY, a lent list shorter than asked for (by the capacity, or for
+ * JULEYOMU_RECENT_HASHES hashes), a state that holds more than its limits, or an output list shorter than
+ * the answer. Asked after 3 and before 4. */
 #define JULEYOMU_REFUSAL_MEMORY 5
 /* The median or a quantile of an empty list. */
 #define JULEYOMU_REFUSAL_EMPTY 6
@@ -141,7 +142,8 @@ typedef struct {
 } JuleyomuBlockHash;
 
 /* A history: `count` rows from place `start` on, `hashes` hashes from place 0 on, the byte total and its
- * budget, and the last answer of juleyomu_history_rates while nothing has changed since. */
+ * budget, and the last answer of juleyomu_history_rates until the next connect, preload of an absent height
+ * or cut. */
 typedef struct {
     JuleyomuAnalogHistory analog;
     bool analog_stale;
@@ -232,7 +234,7 @@ double juleyomu_flow_full_wu(void);
 /* A meter that has seen nothing, opened at a clock. */
 JuleyomuFeeFlowMeter juleyomu_fee_flow_meter(uint64_t now);
 
-/* How full the meter is, from 0 to 1, decayed to the clock t. */
+/* How full the meter is, from 0 to 1, decayed to the clock t; NaN where its total is NaN then. */
 double juleyomu_fullness(JuleyomuFeeFlowMeter *m, uint64_t t);
 
 /* The WU/s admitted to each bucket, decayed to the clock t. */
@@ -408,7 +410,7 @@ JuleyomuMarkedRate juleyomu_depth_rate_sat_kvb(uint32_t n, bool flow_warm, Juley
                                                JuleyomuMarkedRate frontier, JuleyomuMarkedRate hist);
 
 /* The published rate at n blocks: cold and warm blended by the share; up to one block, with a finite share
- * above 0, confirm is a floor of the warm one. */
+ * above 0, confirm is a floor of the warm one, or the warm one where that is missing. */
 JuleyomuMarkedRate juleyomu_published_depth_rate(uint32_t n, double alpha, JuleyomuMarkedRate flow,
                                                  JuleyomuMarkedRate frontier, JuleyomuMarkedRate hist,
                                                  JuleyomuMarkedRate confirm);
@@ -429,7 +431,8 @@ uint8_t juleyomu_published_depth_rates(
     size_t history_marks_len, JuleyomuMarkedRate confirm, double alpha, uint64_t *out, size_t out_len,
     uint8_t *out_marks, size_t out_marks_len);
 
-/* The straight line from `left` at depth d0 to `right` at depth d1 (sat/kvB), at a target in blocks. */
+/* The straight line from `left` at depth d0 to `right` at depth d1 (sat/kvB), at a target in blocks; outside
+ * of them the nearer end, and `left` where d1 is not above d0. */
 uint64_t juleyomu_lerp_sat_kvb(uint32_t d0, uint64_t left, uint32_t d1, uint64_t right, uint32_t target);
 
 /* The quote (sat/kvB) for a target in blocks, from the depths and their published rates; no rate for a

@@ -138,7 +138,7 @@ impl Desk {
         Ok(())
     }
 
-    /// What a transaction pays about now, and how many WU/s come in: more from the 48th block to the 84th.
+    /// What a transaction pays about now, and how many WU/s come in: more from the 49th block to the 84th.
     fn demand(&self) -> (u64, u64) {
         match self.tip + 1 - FIRST {
             48..84 => (9_000, 9_400),

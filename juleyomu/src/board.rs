@@ -15,7 +15,8 @@ pub struct DepthInputs<'a> {
     pub frontier: &'a [Option<u64>],
     /// The historical rate.
     pub history: &'a [Option<u64>],
-    /// What was enough lately: up to one block, a floor of the warm rate once the share is finite and above 0.
+    /// What was enough lately: up to one block, once the share is finite and above 0, a floor of the warm rate, or that
+    /// rate where it is missing.
     pub confirm: Option<u64>,
     /// The warm-up share: history, raised by the frontier, at 0; the live pool and history at 1. What is outside is held
     /// within; NaN and infinities count as 0.
@@ -46,8 +47,9 @@ fn published(inputs: &DepthInputs<'_>) -> Result<Marked, Refusal> {
     Ok(out)
 }
 
-/// The quote for a target: the rate of its depth, the straight line between two depths, the last rate beyond them; none
-/// below every depth that has a rate, at a depth whose own rate is missing, and for lists that are empty or of different lengths.
+/// The quote for a target: the rate of its depth; between two depths the straight line where both have a rate, else the
+/// last rate before the target; the last rate beyond them. None below every depth that has a rate, at a depth whose own
+/// rate is missing, and for lists that are empty or of different lengths.
 ///
 /// # Errors
 ///
@@ -67,7 +69,8 @@ pub fn hold_defined_then_monotone(rates: &mut [Option<u64>]) {
     rates.copy_from_slice(&held.rates());
 }
 
-/// The straight line from `left` at depth `d0` to `right` at depth `d1`, at `target`.
+/// The straight line from `left` at depth `d0` to `right` at depth `d1`, at `target`; outside of them the nearer end, and
+/// `left` where `d1` is not above `d0`.
 #[must_use]
 pub fn lerp(d0: u32, left: u64, d1: u32, right: u64, target: u32) -> u64 {
     ffi::juleyomu_lerp_sat_kvb(d0, left, d1, right, target)

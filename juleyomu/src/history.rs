@@ -5,7 +5,7 @@ use crate::marked::{Marked, rate_of};
 use crate::memory::{LentBytes, Memory};
 use crate::refusal::{Refusal, accepted};
 
-/// Kept hashes: those of the newest blocks that have one.
+/// Hashes kept, at most; one more drops the oldest.
 pub const RECENT_HASHES: usize = 144;
 
 /// Targets of one history, at most.
@@ -29,7 +29,8 @@ pub struct Block {
 
 /// The newest blocks up to a budget of bytes, and what such times asked for within each target.
 ///
-/// It owns the memory that the port works in, all of it allocated at the opening.
+/// It owns the memory that the port works in, allocated at the opening; `rates`, `entries` and `recent_hashes`
+/// allocate their answers.
 #[derive(Clone, Debug)]
 pub struct History {
     state: FeeHistory,
@@ -39,7 +40,7 @@ pub struct History {
 impl History {
     /// A history with nothing held, of at most `budget` bytes and `capacity` blocks, for these targets in blocks.
     ///
-    /// A connect needs a free place even where an eviction would follow: give a capacity some places above what the
+    /// A connect above all held heights needs a free place even where an eviction would follow: give a capacity some places above what the
     /// budget holds. A small slack makes a connect move all that is held more often.
     ///
     /// # Errors
@@ -97,7 +98,8 @@ impl History {
 
     /// The historical rate for each target, in their order; none while a target has under 2,000 pairs.
     ///
-    /// After a change it scans the pairs of every target; until the next one the answer is kept.
+    /// The pairs of every target that has as many are scanned; the answer is then kept until the next connect, preload
+    /// of an absent height or cut.
     pub fn rates(&mut self) -> Vec<Option<u64>> {
         let mut out = Marked::missing(self.state.analog.tracked);
         let update = ffi::history_rates(self.state, &mut self.memory, &mut out);

@@ -322,7 +322,7 @@ const ONE_CALL: Function<Case, Vec<After>> =
 /// Two dozen calls on any meter.
 const CALLS: Function<Case, Vec<After>> =
     Function::new("calls", run::<RattleMeter>, run::<Patched>);
-/// Thousands of admissions, some thousand of them between two reads.
+/// Thousands of admissions, some five hundred of them between two reads.
 const FLOW: Function<Flow, Vec<After>> = Function::new(
     "flow",
     |flow| run::<RattleMeter>(&flow.case()),

@@ -1,7 +1,8 @@
-//! Calls on states within the limits that no call made, over memory that somebody else wrote: heights do
-//! not ascend or stand there twice, marks are any, hurdles and pairs are not those of the rows, the total
-//! is no sum, windows are full where rows are not. After each call the answer, the state and every element
-//! of the fifteen lists are compared with what the definitions say.
+//! Calls on states that no call made, nearly all within the limits, over memory that somebody else wrote:
+//! heights do not ascend or stand there twice, marks are any, hurdles and pairs are not those of the rows,
+//! the total is no sum, windows are full where rows are not. After each call the answer, the state and every
+//! element of the fifteen lists, but for the scratch once a scan has found a rate, are compared with what the
+//! definitions say.
 
 use super::inputs::draw_steps;
 use super::model::Model;

@@ -1,6 +1,7 @@
-//! Calls on states within the limits that no call made, over memory that somebody else wrote: where the
-//! held hurdles start and how many they are, hurdles, pairs and targets are any. After each call the
-//! answer, the state and every element of the memory are compared with what the definitions say.
+//! Calls on states that no call made, nearly all within the limits, over memory that somebody else wrote:
+//! where the held hurdles start and how many they are, hurdles, pairs and targets are any. After each call
+//! the answer, the state and every element of the memory, but for the scratch once a scan has found a rate,
+//! are compared with what the definitions say.
 
 use super::inputs::{any_float, draw_call, draw_confidence, draw_hurdle, draw_short, draw_target};
 use super::model::{self, Windows};
