@@ -1,4 +1,4 @@
-// Demand 3 of document 01 as one contract: the loop over depths, then the lookup of a target with the
+// Demand 3 as one contract: the loop over depths, then the lookup of a target with the
 // same depths and the output list as the loop left it. It sees the estimator's contracts alone.
 ghost use Rattle.rbitcoin_mempool.specs.Answer.{answer};
 ghost use Rattle.rbitcoin_mempool.specs.Rates.{given};

@@ -1,4 +1,4 @@
--- Rust's `x as u64` in three of the cases that `to_u64` tells apart. Assumes nothing.
+-- Rust's `x as u64` of what is too big and of what is not above 0; and that what lies between is in the cast's range. Assumes nothing.
 use mathlib.Core.Path.{_≡_, refl, sym, subst}
 use Prim.Native.Nat.{_-_, _*_, _/_, _^_, _≤_, _<_}
 use native.Mathlib.Nat.{le-div-iff-mul-le, div-lt-iff-lt-mul}

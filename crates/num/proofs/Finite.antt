@@ -1,4 +1,4 @@
--- A finite number less itself is 0, and what is no finite number is NaN. Assumes nothing.
+-- A float less itself equals 0 exactly where it is finite. Assumes nothing.
 use mathlib.Core.Path.{_≡_, refl, _∙_}
 use Prim.Native.Nat.{ℕ, _*_, _<_}
 use native.Mathlib.Nat.{mul-pos, sub-self}

@@ -1,4 +1,4 @@
--- The windows' laws: the stored pairs of each target are the pairs of the held hurdles, of an empty state and after each operation; and each operation does to the held hurdles what it should. Assumes nothing.
+-- The stored pairs of each target are the pairs of the held hurdles: of an empty state, and after each push and pop. Assumes nothing.
 use Prim.Native.Nat.{ℕ, _+_, _-_, _/_, _≤_, _<_}
 use mathlib.Core.Path.{_≡_, refl, sym, ap, _∙_, subst}
 use mathlib.Core.Logic.{⊎-elim}

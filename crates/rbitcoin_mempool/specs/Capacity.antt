@@ -45,7 +45,7 @@ inflowSuffixWu inflow secs = tabulate (λ i. inflowWu secs (drop i (take 402 inf
 unfoldable pub stressedWu : ℕ → ℕ → ℕ
 stressedWu n sum = toU64 (cond (leb n 1) (mul binary64 (ofU64 sum) (fin false 1 (pos 1))) (ofU64 sum))
 
--- whether the stock above a candidate and the stressed inflow above it, read off the suffix sums, fit the capacity
+-- whether the stock above a candidate and the stressed inflow above it, read off the suffix sums, fit the effective capacity
 unfoldable pub fitsWith : List ℕ → ℕ → ℕ → ℕ → Bool
 fitsWith suffix n candidate stock = leb (saturatingAdd stock (stressedWu n (getD suffix (firstBucketAbove candidate) 0))) (effectiveCapacityWu n)
 

@@ -31,7 +31,7 @@ flowForDepth (some p) (some f) n = some (max p f)
 flowForDepth none (some f) n = some f
 flowForDepth p none n = cond (le half64 (blendWeight n)) p none
 
--- the blend of two numbers by a weight v: 'v·a + (1-v)·b', and the same with the terms in the other order
+-- the blend of two numbers by a weight v: v·a + (1-v)·b, and the same with the terms in the other order
 unfoldable pub blended : Float → ℕ → ℕ → ℕ
 blended v a b = roundToU64 (add binary64 (mul binary64 v (ofU64 a)) (mul binary64 (sub binary64 one64 v) (ofU64 b)))
 

@@ -29,7 +29,7 @@ gap from to = let ns = to - from in add binary64 (ofU64 (ns / 1000000000)) (div 
 unfoldable pub shareLeft : Float → Float
 shareLeft dt = expOf (div binary64 (mul binary64 (neg ln2) dt) halfLifeSecs)
 
--- `1e-3`, the least time that a sample is taken over
+-- `1e-3`, the least time in seconds that a sample is taken over
 abbrev pub leastSecs : Float
 leastSecs = round binary64 false 1 1000
 

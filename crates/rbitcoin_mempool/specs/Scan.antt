@@ -28,7 +28,7 @@ rateIn w n c =
     let d = findTarget (w .state) n in
     cond (ltb d (w .state .tracked)) (rateAmong (heldIn w) (storedPairs w d) n c) none
 
--- 5 first, a scratch list of z places that is shorter than the capacity included
+-- 3, then 5, before any answer; 5 also for a scratch list of z places that is shorter than the capacity
 unfoldable pub scanRefusal : AnalogHistory → ℕ → ℕ → ℕ → ℕ → ℕ
 scanRefusal s h b a z = orElse (lentRefusal s h b a) (cond (ltb z (s .capacity)) 5 0)
 

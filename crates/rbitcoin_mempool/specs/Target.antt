@@ -11,7 +11,7 @@ use Rattle.rbitcoin_mempool.specs.Answer.{none as nothing}
 use Rattle.rbitcoin_mempool.specs.Rates.{asAnswer, ratesOf, marksValid}
 use Rattle.rbitcoin_mempool.specs.Hold.{neverDescends}
 
--- a quotient to the nearest whole number, halves up: 'quote = numer / span; if rem * 2 >= span { quote += 1 }'
+-- a quotient to the nearest whole number, halves up: the Rust's quotient, and one more where twice the remainder is at least the span
 unfoldable pub nearestQuotient : ℕ → ℕ → ℕ
 nearestQuotient numer span = cond (leb span (numer % span * 2)) (numer / span + 1) (numer / span)
 

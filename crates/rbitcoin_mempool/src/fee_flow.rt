@@ -29,14 +29,14 @@ pub struct FeeFlowMeter {
     last_admit: u64,
 }
 
-// The half-life.
+// The half-life in seconds.
 pub fn admit_half_life_secs() -> f64
     ensures { λ r. ⌜ r ≡ halfLifeSecs ⌝ }
 {
     FeeFlowMeter::ADMIT_HALF_LIFE_SECS
 }
 
-// The full weight, as the Rust names it.
+// The full weight in WU, as the Rust names it.
 pub fn flow_full_wu() -> f64
     ensures { λ r. ⌜ r ≡ flowFullWu ⌝ }
 {
@@ -70,7 +70,7 @@ fn share_after(dt: f64) -> f64
 }
 
 // The share that is left since the clock `last`. The one since the last admission, which is at
-// hand, is taken where the clocks and so the times are the same.
+// hand, is taken where the clocks are the same and the gap is at least a millisecond: then the times are too.
 fn share_since(last: u64, last_admit: u64, now: u64, dt: f64, share: f64) -> f64
     requires { ⌜ (dt ≡ maxOf (gap «last_admit» now) leastSecs) × (share ≡ shareLeft dt) ⌝ }
     ensures { λ r. ⌜ (le (gap last now) (ofU64 0) ≡ false → r ≡ shareLeft (gap last now)) ⌝ }

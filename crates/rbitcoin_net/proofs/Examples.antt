@@ -109,13 +109,13 @@ pub hash-evicted : insertOf 11 (blank 1000) (some (8 ∷ [])) one
 unfolding retain below above onward get remove insert forget forgetAll next truncateAbove newest evictOne evictBlocks evict hold insertOf
 hash-evicted = refl
 
--- eviction goes by the kept total: it saturates at 2^64 - 1, the first block goes, and the second stays below the budget
+-- eviction goes by the kept total: it saturates at 2^64 - 1, the first block goes, and the second stays, since the total is then below the budget
 pub saturated : insertOf 2 (blank (2 ^ 64 - 1)) none (insertOf 1 (blank 10) none (new (2 ^ 64 - 2) []))
     ≡ record { blocks = entry 2 (blank (2 ^ 64 - 1)) ∷ []; total = 2 ^ 64 - 11; budget = 2 ^ 64 - 2; targets = []; hashes = []; hurdles = []; stale = false; rates = none }
 unfolding retain below above onward get remove insert forget forgetAll next truncateAbove evictOne evictBlocks evict hold insertOf
 saturated = refl
 
--- a block above the budget is evicted as it is stored, with its hash and its hurdle
+-- a block above the budget, put into an empty store, is evicted as it is stored, with its hash and its hurdle
 pub evicts-itself : insertOf 5 (rated 3 8) (some (1 ∷ [])) (new 7 []) ≡ new 7 []
 unfolding retain below above onward get remove insert forget forgetAll next truncateAbove newest evictOne evictBlocks evict hold insertOf
 evicts-itself = refl

@@ -182,7 +182,7 @@ module _ (pop : List ℕ → List ℕ) where
 
 -- ---- the first lines of `insert`
 
--- "truncate_above(height); if let Some(old) = blocks.remove(&height) {..}; hashes.remove(&height);"
+-- a connect's first steps: `truncate_above`, then the height itself removed from the blocks and from the hashes
 abbrev pub cleared : ℕ → History → History
 cleared h x =
     let y = truncateAbove h x in

@@ -1,4 +1,4 @@
--- A rate pushed onto the windows of a sound state: it is accepted, and the windows fit the rows with the new one. Assumes nothing.
+-- A rate pushed onto the windows of a sound state: there is room, and what it does to the hurdles; and the hurdles of rows with one more. Assumes nothing.
 use Prim.Native.Nat.{ℕ, _≤_, _<_}
 use mathlib.Core.Path.{_≡_, refl, sym, ap}
 use mathlib.Core.Bool.{Bool, true, false}
@@ -77,7 +77,7 @@ pub hurdles-with : (los his : List (Entry HistoricalFeeBlock)) (h : ℕ) (b : Hi
 unfolding hurdlesOf
 hurdles-with los his h b = hurdles-append los (entry h b ∷ his)
 
--- behind, before, and missing between
+-- behind, and before
 pub maybe-behind : (o : Option ℕ) (hs : List ℕ) → pushMaybe pushBack o false hs ≡ hs ++ consMaybe o []
 maybe-behind none hs = sym (append-nil hs)
 maybe-behind (some r) hs = refl

@@ -1,4 +1,4 @@
--- Over any run of calls from an opening the state stays sound, and while the true sum fits, the kept byte total is that sum. Assumes nothing.
+-- Over any run of calls from an accepted opening the state stays sound, and while the true sum fits, the kept byte total is that sum. Assumes nothing.
 use Prim.Native.Nat.{ℕ, _^_, _<_}
 use mathlib.Core.Path.{_≡_, refl, sym, subst}
 use mathlib.Core.Bool.{Bool, true, false, cond}

@@ -34,7 +34,7 @@ evictBlock height b x = evictRow height (markOf (hurdleOf b)) (b .«txstat_bytes
 abbrev pub evictOldest : Rows → Hashed → Hashed
 evictOldest m x = evictRow (getD (m .heights) (x .state .start) 0) (getD (m .marks) (x .state .start) 0) (getD (m .sizes) (x .state .start) 0) x
 
--- the oldest of n rows goes while the total is above the budget; with none left the total is 0
+-- the oldest of n rows goes while the total is above the budget; with none left and the total still above it, the total becomes 0
 unfoldable pub evictRows : Rows → ℕ → Hashed → Hashed
 evictRows m zero x = cond (ltb (x .state .budget) (x .state .«txstat_bytes»)) (hashed (withSums (x .state .analog) 0 (x .state)) (x .hashes)) x
 evictRows m (suc n) x = cond (ltb (x .state .budget) (x .state .«txstat_bytes»)) (evictRows m n (evictOldest m x)) x

@@ -1,4 +1,4 @@
--- The Rust's history, and its functions, after fee_history.rs. Each definition has the Rust's lines in the Rust's order. Definitions only.
+-- The Rust's history, and its functions, after fee_history.rs. Each definition has the Rust's lines in the Rust's order; only the test for a held height of `insert_if_absent` is written last. Definitions only.
 use Prim.Native.Nat.{ℕ, _+_, _-_, _^_, min}
 use mathlib.Core.Bool.{Bool, true, false, cond, not, _&&_}
 use mathlib.Core.List.{List, [], _∷_, map}
@@ -75,7 +75,7 @@ truncateAbove h x =
     let z = forgetAll popBack (onward (next h) (x .blocks)) y in
     setHashes (below (next h) (z .hashes)) z
 
--- `note_hash`: "while hashes.len() > RECENT_HASHES { hashes.pop_first() }"
+-- `note_hash`: `while self.hashes.len() > RECENT_HASHES { self.hashes.pop_first(); }`
 unfoldable pub newest : {A : Type 0} → List A → List A
 newest xs = drop (length xs - 144) xs
 
@@ -120,7 +120,7 @@ insertOf h b hash x =
     let v = setHurdles (pushMaybe pushBack (hurdleOf b) (u .stale) (u .hurdles)) u in
     evict (noteHash h hash v)
 
--- of a preload with a rate while the windows are not stale, by the first and the last held height: "(_, Greater) => push_back, (Less, _) => push_front, _ => analog_stale = true", and `push_back` where none is held
+-- of a preload with a rate while the windows are not stale, by the first and the last held height: above the last `push_back`, below the first `push_front`, else `analog_stale = true`, and `push_back` where none is held
 abbrev pub preloadHurdle : ℕ → ℕ → Option ℕ → Option ℕ → History → History
 preloadHurdle h r (some first) (some last) x =
     cond (ltb last h) (setHurdles (pushBack r (x .hurdles)) x)
@@ -141,7 +141,7 @@ insertIfAbsentOf h b hash x =
     let z = hold h b (preloadRate h (hurdleOf b) (y .stale) y) in
     cond (containsKey h (x .blocks)) x (evict (noteHash h hash z))
 
--- `rates`: "1 block at CONFIDENCE_NEAR, farther at HISTORICAL_CONFIDENCE_FAR", 0.999 and 0.95
+-- `rates`: up to 1 block at `CONFIDENCE_NEAR`, farther at `HISTORICAL_CONFIDENCE_FAR`: 0.999 and 0.95
 unfoldable pub confidenceOf : ℕ → Float
 confidenceOf n = cond (leb n 1) (round binary64 false 999 1000) (round binary64 false 95 100)
 

@@ -91,7 +91,7 @@ view s m = record {
   rates = keptRates s;
 }
 
--- what a call is refused with, 0 for nothing. Of a state that no call returns: 3 for more than 16 targets, 5 for what it holds outside its capacity
+-- what a call is refused with, 0 for nothing. Of a state that no call returns: 3 for more than 16 targets; 5 for a capacity above 65,536, for hurdles or rows outside the capacity, and for more than 144 hashes
 unfoldable pub stateRefusal : FeeHistory → ℕ
 stateRefusal s = orElse (windowsRefusal (s .analog)) (cond (ltb (s .analog .capacity) (s .start + s .count)) 5 (cond (ltb 144 (s .hashes)) 5 0))
 
@@ -113,7 +113,7 @@ lentRefusal s m =
     (orElse (hashesRefusal (length (m .hashes .heights)) (length (m .hashes .bytes)))
     (windowsSizeRefusal (s .analog) (length (m .hurdles)) (length (m .befores)) (length (m .aheads))))
 
--- what an opening leaves and each call keeps: the memory serves, heights and kept hashes ascend, the stored pairs are those of the hurdles, and unless stale the hurdles are the held rates in height order
+-- what an accepted opening leaves and each call keeps: the memory serves, heights and kept hashes ascend, the stored pairs are those of the hurdles, and unless stale the hurdles are the held rates in height order
 pub record Sound (s : FeeHistory) (m : Lent) : Type 0 where
   pub lent : lentRefusal s m ≡ 0
   pub ascends : Ascends (heldRows (m .rows) s)

@@ -22,7 +22,7 @@ rowPut from to q r v xs =
 abbrev pub freeOf : FeeHistory → ℕ
 freeOf s = s .analog .capacity - s .count
 
--- where the rows start with one more at rank q: the nearer end moves by one; where that end has no room, all move, so that three quarters of what is free lie there
+-- where the rows start with one more at rank q: the end with fewer rows moves by one, the back one where both have as many; where that end has no room, all move, so that three quarters of what is free (rounded up) lie there, one place of which the new row takes
 unfoldable pub startWith : FeeHistory → ℕ → ℕ
 startWith s q =
     cond (ltb q (s .count - q))

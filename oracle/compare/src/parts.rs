@@ -25,7 +25,7 @@ pub trait Part {
         Vec::new()
     }
 
-    /// A few hundred questions with every boundary, for the program that replays them.
+    /// Questions for the program that replays them, boundaries among them.
     fn replay(&self, replay: &mut Replay);
 
     /// A row for each entry point.

@@ -54,7 +54,7 @@ impl Progress {
         }
     }
 
-    /// The clock is read some hundred times a second, however long a step takes.
+    /// The clock is read some hundred times a second, or after each step that takes longer.
     fn look(&mut self) {
         let now = Instant::now();
         let quick = now - self.looked < Duration::from_millis(5);

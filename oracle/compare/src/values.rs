@@ -2,7 +2,7 @@
 
 use crate::words::{of_rank, rank};
 
-/// 0, each 2^k with its two neighbours, and 2^64 - 1.
+/// 0, each 2^k with its two neighbours, 2^64 - 2 and 2^64 - 1.
 pub fn boundary_words() -> Vec<u64> {
     let mut out: Vec<u64> = (0..64)
         .flat_map(|k| around_word(1 << k, 1))

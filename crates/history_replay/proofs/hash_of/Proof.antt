@@ -1,4 +1,4 @@
--- `history_replay::hash_of` meets its contract: each turn passes a byte. Assumes nothing.
+-- `history_replay::hash_of` ends: each turn passes a byte. Assumes nothing.
 use Prim.Native.Nat.{_-_}
 use borrow.Author.Needs.{needs}
 use Rattle.history_replay.proofs.hash_of.Statement.{statement}

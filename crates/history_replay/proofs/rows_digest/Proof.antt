@@ -1,4 +1,4 @@
--- `history_replay::rows_digest` meets its contract: each turn passes a row. Assumes nothing.
+-- `history_replay::rows_digest` ends: each turn passes a row. Assumes nothing.
 use Prim.Native.Nat.{_-_}
 use borrow.Author.Needs.{needs}
 use Rattle.history_replay.proofs.rows_digest.Statement.{statement}

@@ -100,7 +100,8 @@ fn collect_nearest(ds: &[u64], vs: &[u64], cut: u64, wanted: usize, m: usize, ou
     }
 }
 
-// The quantile of the 200 outcomes nearest to a level. The cut is the 200th least distance.
+// The quantile of the outcomes of the 200 pairs whose logarithms are nearest to a level. The cut is the 200th
+// least distance.
 fn nearest_quantile(
     logs: &[f64],
     outcomes: &[u64],

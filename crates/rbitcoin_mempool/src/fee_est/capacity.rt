@@ -148,7 +148,7 @@ fn least_fitting(
 }
 
 // The least candidate at which the stock above it and the projected inflow above it fit the
-// capacity of N blocks. Refusal 1: candidates and stock of unequal length.
+// effective capacity of N blocks. Refusal 1: candidates and stock of unequal length.
 pub fn min_rate_for_capacity(
     candidate_rates: &[u64],
     stock_above_wu: &[u64],

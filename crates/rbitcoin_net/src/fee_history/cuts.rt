@@ -31,7 +31,8 @@ pub(crate) fn with_sums(s: FeeHistory, analog: AnalogHistory, total: u64) -> Fee
     t
 }
 
-// The newest block is no longer held: a rate that is there leaves the hurdles, unless they are stale.
+// A block of those cut is no longer held: its bytes leave the total, and where its rate is there and the
+// hurdles are not stale, the newest hurdle goes.
 fn forget_back(s: FeeHistory, old: HistoricalFeeBlock) -> FeeHistory
     ensures { λ r. ⌜ r ≡ forgetBlock popBackOf old s ⌝ }
 {
@@ -74,7 +75,7 @@ pub(crate) fn cut_at(
     t
 }
 
-// The rows and the hashes above `height` dropped.
+// The rows and the hashes above `height` dropped; at the largest height, those of that height itself.
 pub(crate) fn truncate(
     s: FeeHistory,
     height: u32,

@@ -1,4 +1,4 @@
--- `windows_replay::all_pairs` meets its contract: each turn passes a target. Assumes nothing.
+-- `windows_replay::all_pairs` ends: each turn passes a target. Assumes nothing.
 use Prim.Native.Nat.{_-_}
 use borrow.Author.Needs.{needs}
 use Rattle.windows_replay.proofs.all_pairs.Statement.{statement}

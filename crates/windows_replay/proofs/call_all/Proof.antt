@@ -1,4 +1,4 @@
--- `windows_replay::call_all` meets its contract: each turn passes a call. Assumes nothing.
+-- `windows_replay::call_all` ends: each turn passes a call. Assumes nothing.
 use mathlib.Core.Path.{_≡_}
 use Prim.Native.Nat.{_≤_, _-_}
 use borrow.Author.Needs.{needs}

@@ -1,4 +1,4 @@
--- `windows_replay::pairs_digest` meets its contract: each turn passes a place. Assumes nothing.
+-- `windows_replay::pairs_digest` ends: each turn passes a place. Assumes nothing.
 use Prim.Native.Nat.{_-_}
 use borrow.Author.Needs.{needs}
 use lib.ListN.{length}

@@ -458,8 +458,8 @@ fn draw_candidates(rng: &mut Rng) -> Vec<u64> {
     (0..length).map(|_| rng.pick(&rates)).collect()
 }
 
-/// Stocks next to what fits, so that the answer turns on one unit of weight. Of 100 stocks `fitting`
-/// fit.
+/// Stocks next to what fits, so that the answer turns on one unit of weight. Of 100 stocks `fitting` are
+/// drawn to fit, and do where the inflow alone does.
 fn draw_stocks(
     rng: &mut Rng,
     fitting: u64,
@@ -660,7 +660,7 @@ fn ask_numbers(replay: &mut Replay) {
 }
 
 /// Few candidates and inflows, since a question has all of them on its line. The rates lie about the
-/// first six edges, and the inflows fill about one block.
+/// first seven edges, and the inflows fill about one block.
 fn draw_short_pairs(rng: &mut Rng) -> Search {
     let n = draw_blocks(rng);
     let (count, length) = (rng.below(7), rng.below(7));

@@ -583,7 +583,7 @@ mod tests {
         );
     }
 
-    /// A quote that is 3 away, one that rises, and one where there is no point are told apart.
+    /// A quote that is 5/2 away, one that rises, a point without a quote and a quote without a point are each seen.
     #[test]
     fn verdicts_can_fail() {
         let of = Loop {

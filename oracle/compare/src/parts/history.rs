@@ -111,8 +111,8 @@ fn rates_region(story: &Story) -> &'static str {
     }
 }
 
-/// Targets, capacity and place of the hurdles; of the rows; the number of hashes, the call, and the list
-/// that it is lent one place too short: a state that no call returns.
+/// Targets, capacity and place of the hurdles; how many these are, place and number of the rows; the number
+/// of hashes, the call, and the list that it is lent one place too short: a state that no call returns.
 type Foreign = ((u64, u64, u64), (u64, u64, u64), (u64, Step));
 
 /// 1, then 3, then 5; the Rust has no such state. Nothing changes.
@@ -217,7 +217,7 @@ fn draw_marked(rng: &mut Rng) -> Marked {
     (0..count).map(block).collect()
 }
 
-/// Budgets, targets and capacities at every limit.
+/// Budgets, targets and capacities about the limits; 65,536 itself is a capacity of the pair windows' cases.
 const SIZES: [(u64, u32, u64); 11] = [
     (0, 0, 0),
     (100, 0, 5),
@@ -262,7 +262,7 @@ fn limit_calls() -> Vec<Call> {
     ]
 }
 
-/// Openings at every limit with calls on what they leave: with each list too short in turn, and with exact
+/// Openings about the limits with calls on what they leave: with each list too short in turn, and with exact
 /// lists.
 fn opening_cases() -> Vec<Case> {
     let mut cases = Vec::new();

@@ -319,7 +319,7 @@ fn run<M: Meter>((opening, calls): &Case) -> Vec<After> {
 const ONE_CALL: Function<Case, Vec<After>> =
     Function::new("one_call", run::<RattleMeter>, run::<Patched>)
         .upstream(run::<Upstream>, one_call_region);
-/// Two dozen calls on any meter.
+/// Up to 23 calls on any meter.
 const CALLS: Function<Case, Vec<After>> =
     Function::new("calls", run::<RattleMeter>, run::<Patched>);
 /// Thousands of admissions, some five hundred of them between two reads.
@@ -328,7 +328,7 @@ const FLOW: Function<Flow, Vec<After>> = Function::new(
     |flow| run::<RattleMeter>(&flow.case()),
     |flow| run::<Patched>(&flow.case()),
 );
-/// The last read of such a flow, of which the Rust as published has another.
+/// The last read of such a flow, which may be another of the Rust as published.
 const FLOW_FULLNESS: Function<Flow, f64> = Function::new(
     "flow_fullness",
     Flow::fullness::<RattleMeter>,
@@ -727,7 +727,7 @@ fn question((opening, calls): Case) -> Question {
     (opening.last_admit, calls.into_iter().map(call).collect())
 }
 
-/// A meter with a rate in every bucket, after a call, and its clock.
+/// A meter with a rate in every bucket, after admissions at each edge and elsewhere; and its clock.
 fn warm<M: Meter>() -> (M, u64) {
     let mut meter = M::open(&Opening {
         last_admit: 0,

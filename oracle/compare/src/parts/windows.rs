@@ -343,7 +343,7 @@ fn list_jobs(some: u64) -> Vec<Job> {
         .flat_map(|length| [length; 7])
         .map(|length| inputs::draw_list(&mut rng, length))
         .collect();
-    // Each confidence that is a whole rank, and the fixed ones.
+    // The confidences of the first 40 whole ranks at most, and the fixed ones.
     let ranks = |list: &Vec<u64>| {
         let count = list.len() as u64;
         let ranks = (1..=count.min(40)).map(move |rank| rank as f64 / count as f64);

@@ -1,4 +1,4 @@
--- `num::exp` meets its contract: each return is a case of `proofs/Exponential.antt`. Assumes nothing.
+-- `num::exp::exp` meets its contract: each return is a case of `proofs/Exponential.antt`. Assumes nothing.
 use borrow.Author.Needs.{needs}
 use Rattle.num.proofs.Exponential.{small-up, small-down, at-nan, at-low, at-high, at-negative, at-positive}
 use Rattle.num.specs.Exp.{log2e, expAt}

@@ -1,4 +1,4 @@
--- `num::power_down` meets its contract, by `proofs/Power.antt`. Assumes nothing.
+-- `num::exp::power_down` meets its contract, by `proofs/Power.antt`. Assumes nothing.
 use borrow.Author.Needs.{needs}
 use Rattle.num.proofs.Power.{power-down, no-nan}
 use Rattle.num.proofs.exp.power_down.Statement.{statement}

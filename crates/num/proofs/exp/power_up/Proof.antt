@@ -1,4 +1,4 @@
--- `num::power_up` meets its contract, by `proofs/Power.antt`. Assumes nothing.
+-- `num::exp::power_up` meets its contract, by `proofs/Power.antt`. Assumes nothing.
 use borrow.Author.Needs.{needs}
 use Rattle.num.proofs.Power.{power-up, no-nan}
 use Rattle.num.proofs.exp.power_up.Statement.{statement}

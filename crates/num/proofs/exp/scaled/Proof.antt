@@ -1,4 +1,4 @@
--- `num::scaled` meets its contract, by what `series` ensures. Assumes nothing.
+-- `num::exp::scaled` meets its contract, by what `series` ensures. Assumes nothing.
 use borrow.Author.Needs.{needs}
 use Rattle.num.proofs.exp.scaled.Statement.{statement}
 use Rattle.num.proofs.exp.scaled.Tie as tie

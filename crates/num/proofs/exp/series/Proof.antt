@@ -1,4 +1,4 @@
--- `num::series` meets its contract. The loop's invariant: the steps from j down, at t, give the whole polynomial. The measure is j. Assumes nothing.
+-- `num::exp::series` meets its contract. The loop's invariant: the steps from j down, at t, give the whole polynomial. The measure is j. Assumes nothing.
 use mathlib.Core.Path.{_≡_, sym, _∙_}
 use borrow.Author.Needs.{needs}
 use native.Mathlib.Omega.{arith}

@@ -1,4 +1,4 @@
--- `num::round_to_u64` meets its contract: each return is a case of `proofs/Rounding.antt`. Assumes nothing.
+-- `num::float::round_to_u64` meets its contract: each return is a case of `proofs/Rounding.antt`. Assumes nothing.
 use mathlib.Core.Path.{sym, _∙_, subst}
 use native.Mathlib.Omega.{arith}
 use lib.Dec.{T}

@@ -1,4 +1,4 @@
--- `num::exponent` meets its contract, by `proofs/Fields.antt`. Assumes nothing.
+-- `num::ln::exponent` meets its contract, by `proofs/Fields.antt`. Assumes nothing.
 use mathlib.Core.Path.{sym, subst}
 use native.Mathlib.Omega.{arith}
 use lib.Dec.{T}

@@ -1,4 +1,4 @@
--- `num::halved` meets its contract, by `proofs/Halved.antt`. Assumes nothing.
+-- `num::ln::halved` meets its contract, by `proofs/Halved.antt`. Assumes nothing.
 use mathlib.Core.Path.{sym, subst}
 use borrow.Author.Needs.{needs}
 use lib.Dec.{T}

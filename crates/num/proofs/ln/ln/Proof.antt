@@ -1,4 +1,4 @@
--- `num::ln` meets its contract: each return is a case of `proofs/Logarithm.antt`. Assumes nothing.
+-- `num::ln::ln` meets its contract: each return is a case of `proofs/Logarithm.antt`. Assumes nothing.
 use mathlib.Core.Path.{_∙_, ap}
 use borrow.Author.Needs.{needs}
 use native.Mathlib.Omega.{arith}

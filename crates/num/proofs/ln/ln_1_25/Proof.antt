@@ -1,4 +1,4 @@
--- `num::ln_1_25` meets its contract: both sides compute. Assumes nothing.
+-- `num::ln::ln_1_25` meets its contract: both sides compute. Assumes nothing.
 use mathlib.Core.Path.{refl}
 use lib.Ieee.{size, add, sub, mul, div, le, ofBits, ofInt}
 use Rattle.num.specs.Ln.{significandOf, exponentOf, terms, lnOf}

@@ -1,4 +1,4 @@
--- `num::series` meets its contract. The loop's invariant: the steps from j down, at t, give the whole polynomial. The measure is j. Assumes nothing.
+-- `num::ln::series` meets its contract. The loop's invariant: the steps from j down, at t, give the whole polynomial. The measure is j. Assumes nothing.
 use mathlib.Core.Path.{_≡_, refl, sym, _∙_}
 use Prim.Native.Nat.{_≤_}
 use native.Mathlib.Omega.{arith}

@@ -1,4 +1,4 @@
--- `num::significand` meets its contract, by `proofs/Fields.antt`. Assumes nothing.
+-- `num::ln::significand` meets its contract, by `proofs/Fields.antt`. Assumes nothing.
 use mathlib.Core.Path.{sym, subst}
 use borrow.Author.Needs.{needs}
 use lib.Dec.{T}

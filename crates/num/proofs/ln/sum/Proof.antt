@@ -1,4 +1,4 @@
--- `num::sum` meets its contract, by what `series` ensures. Assumes nothing.
+-- `num::ln::sum` meets its contract, by what `series` ensures. Assumes nothing.
 use borrow.Author.Needs.{needs}
 use Rattle.num.proofs.ln.sum.Statement.{statement}
 use Rattle.num.proofs.ln.sum.Tie as tie

@@ -1,4 +1,4 @@
--- `num::digit` meets its contract, by `proofs/WideDigit.antt`. The loop keeps a `Trial`, and the trial digit falls. Assumes nothing.
+-- `num::wide::digit` meets its contract, by `proofs/WideDigit.antt`. The loop keeps a `Trial`, and the trial digit falls. Assumes nothing.
 use mathlib.Core.Logic.{⊎-elim}
 use Prim.Native.Nat.{_+_, _*_, _/_, _%_, _^_, _≤_, _<_}
 use native.Mathlib.Nat.{div-add-mod'}

@@ -1,4 +1,4 @@
--- `num::divide_long` meets its contract, by `proofs/WideShift.antt`. Assumes nothing.
+-- `num::wide::divide_long` meets its contract, by `proofs/WideShift.antt`. Assumes nothing.
 use Prim.Native.Nat.{_+_, _-_, _*_, _/_, _%_, _^_}
 use mathlib.Core.Path.{_≡_}
 use native.Mathlib.Nat.{mod-eq-of-lt}

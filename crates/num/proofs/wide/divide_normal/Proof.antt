@@ -1,4 +1,4 @@
--- `num::divide_normal` meets its contract, by `proofs/WideDivision.antt`. Assumes nothing.
+-- `num::wide::divide_normal` meets its contract, by `proofs/WideDivision.antt`. Assumes nothing.
 use Prim.Native.Nat.{_+_, _*_, _^_}
 use native.Mathlib.Omega.{arith}
 use borrow.Author.Needs.{needs}

@@ -1,4 +1,4 @@
--- `num::divide_short` meets its contract, by `proofs/WideDivision.antt`. Assumes nothing.
+-- `num::wide::divide_short` meets its contract, by `proofs/WideDivision.antt`. Assumes nothing.
 use Prim.Native.Nat.{_+_, _*_, _/_, _%_, _^_, _<_}
 use native.Mathlib.Nat.{mod-lt}
 use native.Mathlib.Omega.{arith}

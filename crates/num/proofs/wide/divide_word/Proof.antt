@@ -1,4 +1,4 @@
--- `num::divide_word` meets its contract: each return is a division of its own. Assumes nothing.
+-- `num::wide::divide_word` meets its contract: each return is a division of its own. Assumes nothing.
 use native.Mathlib.Omega.{arith}
 use borrow.Author.Needs.{needs}
 use Rattle.num.proofs.WideDivision.{upper-zero}

@@ -1,4 +1,4 @@
--- `num::wide_divide` meets its contract: the lower word is one digit more to the base 2 ^ 64. Assumes nothing.
+-- `num::wide::wide_divide` meets its contract: the lower word is one digit more to the base 2 ^ 64. Assumes nothing.
 use Prim.Native.Nat.{_^_}
 use native.Mathlib.Nat.{mod-lt}
 use native.Mathlib.Omega.{arith}

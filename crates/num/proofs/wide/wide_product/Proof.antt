@@ -1,4 +1,4 @@
--- `num::wide_product` meets its contract, by `proofs/WideProduct.antt`. Assumes nothing.
+-- `num::wide::wide_product` meets its contract, by `proofs/WideProduct.antt`. Assumes nothing.
 use native.Mathlib.Omega.{arith}
 use borrow.Author.Needs.{needs}
 use Rattle.num.specs.Wide.{value}

@@ -1,4 +1,4 @@
--- `num::wide_sum` meets its contract, by `proofs/WideSum.antt`: the lower words carry exactly where their sum wraps below one of them. Assumes nothing.
+-- `num::wide::wide_sum` meets its contract, by `proofs/WideSum.antt`: the lower words carry exactly where their sum wraps below one of them. Assumes nothing.
 use Prim.Native.Nat.{_<_, _^_}
 use native.Mathlib.Omega.{arith}
 use borrow.Author.Needs.{needs}

@@ -1,4 +1,4 @@
--- `num::saturating_mul` meets its contract: the upper word of the product is 0 exactly where the product fits. Assumes nothing.
+-- `num::word::saturating_mul` meets its contract: the upper word of the product is 0 exactly where the product fits. Assumes nothing.
 use native.Mathlib.Omega.{arith}
 use borrow.Author.Needs.{needs}
 use Rattle.num.proofs.WideLaws.{no-upper-word, upper-word}

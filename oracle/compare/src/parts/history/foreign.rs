@@ -24,7 +24,7 @@ pub type Used = ((u64, u64, u64), (u64, u64, u64), (u64, u64, Vec<Step>));
 pub const FOREIGN_CALLS: Function<Used, Vec<Seen>> =
     Function::new("foreign_calls", seen::<Port>, seen::<Model>);
 
-/// Three times the rates of some 2,000 pairs, and three other calls between.
+/// Three times the rates of some 2,000 pairs, and any call after each.
 pub const FOREIGN_RATES: Function<Used, Vec<Seen>> =
     Function::new("foreign_rates", seen::<Port>, seen::<Model>);
 

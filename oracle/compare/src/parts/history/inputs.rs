@@ -11,7 +11,7 @@ struct Walk {
     /// About the oldest and the newest held height.
     first: u32,
     tip: u32,
-    /// The kind of byte counts, and one block in how many has no rate.
+    /// The kind of byte counts, and one block in how many has no rate (1,000: none).
     sizes: u64,
     missing: u64,
     /// Whether every block has a hash.
@@ -176,7 +176,7 @@ pub fn draw_calls(rng: &mut Rng) -> Case {
     (opening, draw_steps(rng, count))
 }
 
-/// Up to 399 calls on about as many places as hashes are kept, most of them filled first.
+/// Up to 398 calls on about as many places as hashes are kept, most of them filled first.
 pub fn draw_long_calls(rng: &mut Rng) -> Case {
     let capacity = 143 + rng.below(4);
     let opening = Opening {

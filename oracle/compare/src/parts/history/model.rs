@@ -1,5 +1,5 @@
 //! What the definitions of crates/rbitcoin_net/specs say of a history in memory of any contents, for
-//! states that no call made. Each function is named by the definition that it follows.
+//! states that no call made. Where a function follows one definition, its comment names it.
 
 use super::rattle::{Lists, Memory, RECENT_HASHES, State};
 use super::sides::{Block, Call, Reply, Step, asked, hash_bytes, hash_words};
@@ -24,7 +24,7 @@ fn bisect(heights: &[u32], height: u32, mut low: usize, mut high: usize) -> usiz
     low
 }
 
-/// Rooms.antt, `opened`: a value put in behind the first `front` of the held elements.
+/// Rooms.antt, `rowPut`: a value put in behind the first `front` of the held elements.
 fn opened<T: Copy>(
     list: &mut [T],
     (from, to): (usize, usize),

@@ -63,7 +63,7 @@ pub enum Call {
 }
 
 impl Call {
-    /// Whether no history that the call accepts changes by it, but for rates that are kept.
+    /// Whether the call changes no history.
     pub fn reads(&self) -> bool {
         matches!(self, Call::Get(_) | Call::Entries | Call::RecentHashes)
     }

@@ -275,7 +275,8 @@ fn read_rows(bench: &mut Bench) {
     );
 }
 
-/// The rates of 11 targets: worked out, kept, and worked out after a preload between held heights.
+/// The rates of 11 targets: worked out, kept, and worked out with stale hurdles, as a preload between held
+/// heights leaves them.
 fn rate_rows(bench: &mut Bench) {
     let (mut port, mut history) = histories(u64::MAX);
     let (mut state, mut lent) = (port.state, all(&mut port.memory));

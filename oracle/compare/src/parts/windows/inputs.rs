@@ -503,7 +503,7 @@ pub fn draw_scan(rng: &mut Rng) -> Scan {
     }
 }
 
-/// A list of up to 300, and at times one whose lower neighbour may be 0.
+/// A list of a length, and at times one whose lower neighbour may be 0.
 pub fn draw_list(rng: &mut Rng, length: u64) -> Vec<u64> {
     let kind = rng.below(7);
     let draw = |_| match kind {

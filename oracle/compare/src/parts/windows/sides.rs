@@ -248,7 +248,7 @@ impl Port {
             && (self.state == state || answer.refusal == 0 && !reads)
     }
 
-    /// Of a refused call, a read, and any call on little memory a copy is kept to compare with.
+    /// Of a refused call, a rate, and any call on little memory a copy is kept to compare with.
     fn is_watched(&self, step: &Step) -> bool {
         const LITTLE: usize = 1 << 12;
         let rules = Rules {
