@@ -44,8 +44,8 @@ extern "C" {
  * history, a push onto full windows, a rebuild longer than the capacity. */
 #define JULEYOMU_REFUSAL_FULL 4
 /* A capacity above JULEYOMU_MAX_CAPACITY, a lent list shorter than asked for (by the capacity, or for
- * JULEYOMU_RECENT_HASHES hashes), a state that holds more than its limits, or an output list shorter than
- * the answer. Asked after 3 and before 4. */
+ * JULEYOMU_RECENT_HASHES hashes), a state whose start and count together pass its capacity or that has more
+ * hashes, or an output list shorter than the answer. Asked after 3 and before 4. */
 #define JULEYOMU_REFUSAL_MEMORY 5
 /* The median or a quantile of an empty list. */
 #define JULEYOMU_REFUSAL_EMPTY 6
@@ -142,8 +142,8 @@ typedef struct {
 } JuleyomuBlockHash;
 
 /* A history: `count` rows from place `start` on, `hashes` hashes from place 0 on, the byte total and its
- * budget, and the last answer of juleyomu_history_rates until the next connect, preload of an absent height
- * or cut. */
+ * budget, and the last answer of juleyomu_history_rates until the next accepted connect, preload of an
+ * absent height or cut. */
 typedef struct {
     JuleyomuAnalogHistory analog;
     bool analog_stale;

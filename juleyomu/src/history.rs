@@ -98,8 +98,8 @@ impl History {
 
     /// The historical rate for each target, in their order; none while a target has under 2,000 pairs.
     ///
-    /// The pairs of every target that has as many are scanned; the answer is then kept until the next connect, preload
-    /// of an absent height or cut.
+    /// Unless an answer is kept, the pairs of every target that has as many are scanned; the answer is then kept until the
+    /// next accepted connect, accepted preload of an absent height, or cut.
     pub fn rates(&mut self) -> Vec<Option<u64>> {
         let mut out = Marked::missing(self.state.analog.tracked);
         let update = ffi::history_rates(self.state, &mut self.memory, &mut out);

@@ -285,7 +285,7 @@ fn put_call(out: &mut [u64; 4610], i: usize, code: u64, word: u64) {
 }
 
 // The calls that connect every second height, from 0 on; where word 8 is not 0 also a preload of height 1001,
-// which makes the windows stale where it lies between held heights.
+// which makes the windows stale where it lies between held heights and there is room.
 fn generated(words: &[u64], out: &mut [u64; 4610]) -> usize {
     let n = connected(words);
     let mut x = word_at(words, 0);

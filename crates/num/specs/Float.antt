@@ -23,7 +23,7 @@ isFinite (fin s m e) = true
 unfoldable pub maxOf : Float → Float → Float
 maxOf x y = cond (isNan x) y (cond (lt x y) y x)
 
--- `x.clamp(lo, hi)`: lo where x is below it, then hi where that is above it. NaN stays NaN; with lo = 0, -0 stays -0.
+-- `x.clamp(lo, hi)`: lo where x is below it, then hi where that is above it. NaN stays NaN; with lo = 0 and hi not below 0, -0 stays -0.
 abbrev pub clampBelow : Float → Float → Float
 clampBelow x hi = cond (lt hi x) hi x
 

@@ -52,7 +52,7 @@ storedPairs w d = tabulate (storedAt w d) (analogLookback (targetAt (w .state) d
 unfoldable pub WellStored : Windows → Type 0
 WellStored w = (d : ℕ) → d < w .state .tracked → storedPairs w d ≡ pairsOf (heldIn w) (targetAt (w .state) d)
 
--- what a call is refused with, 0 for nothing: "3: more than 16 targets", "5: .. a capacity above 65,536"; and 5 for held hurdles outside the capacity
+-- what a call is refused with, 0 for nothing: "3: more than 16 targets", "5: .. a capacity above 65,536"; and 5 for a start and a count that together are above the capacity
 unfoldable pub stateRefusal : AnalogHistory → ℕ
 stateRefusal s = cond (ltb 16 (s .tracked)) 3 (cond (ltb 65536 (s .capacity)) 5 (cond (ltb (s .capacity) (s .start + s .count)) 5 0))
 

@@ -91,7 +91,7 @@ view s m = record {
   rates = keptRates s;
 }
 
--- what a call is refused with, 0 for nothing. Of a state that no call returns: 3 for more than 16 targets; 5 for a capacity above 65,536, for hurdles or rows outside the capacity, and for more than 144 hashes
+-- what a call is refused with, 0 for nothing. Of a state that no call returns: 3 for more than 16 targets; 5 for a capacity above 65,536, for hurdles or rows whose start and count together are above the capacity, and for more than 144 hashes
 unfoldable pub stateRefusal : FeeHistory → ℕ
 stateRefusal s = orElse (windowsRefusal (s .analog)) (cond (ltb (s .analog .capacity) (s .start + s .count)) 5 (cond (ltb 144 (s .hashes)) 5 0))
 

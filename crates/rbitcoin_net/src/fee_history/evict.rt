@@ -55,7 +55,7 @@ fn evict_one(
     t
 }
 
-// Rows go until the total is within the budget; with none left and the total still above it, it becomes 0.
+// Rows go until the total is within the budget; with none left and the total still above it, the total becomes 0.
 pub(crate) fn evict(
     s: FeeHistory,
     heights: &[u32],

@@ -328,7 +328,7 @@ const FLOW: Function<Flow, Vec<After>> = Function::new(
     |flow| run::<RattleMeter>(&flow.case()),
     |flow| run::<Patched>(&flow.case()),
 );
-/// The last read of such a flow, which may be another of the Rust as published.
+/// The last read of such a flow, which may differ with the Rust as published.
 const FLOW_FULLNESS: Function<Flow, f64> = Function::new(
     "flow_fullness",
     Flow::fullness::<RattleMeter>,

@@ -1,5 +1,5 @@
 //! What the definitions of crates/rbitcoin_net/specs say of a history in memory of any contents, for
-//! states that no call made. Where a function follows one definition, its comment names it.
+//! states that no call made. Most functions name the definition that they follow.
 
 use super::rattle::{Lists, Memory, RECENT_HASHES, State};
 use super::sides::{Block, Call, Reply, Step, asked, hash_bytes, hash_words};

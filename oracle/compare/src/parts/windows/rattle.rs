@@ -184,8 +184,8 @@ pub fn log_quantile(outcomes: &mut [u64], confidence: f64) -> RateFields {
 }
 
 // SAFETY of all below: each pointer and length are one slice's, and the slices do not overlap. The
-// pointers come from unique slices, but for what a rebuild reads, so that a write to a list that is only
-// read would show.
+// pointers come from unique slices, so that a write to a list that is only read would show; but for what a
+// rebuild reads, which is compared with its copy.
 
 pub fn new(targets: &mut [u32], capacity: usize, lent: &mut Lists) -> UpdateFields {
     unsafe {
