@@ -1,5 +1,7 @@
 // Demand 3 as one contract: the loop over depths, then the lookup of a target with the
 // same depths and the output list as the loop left it. It sees the estimator's contracts alone.
+#![tactic(auto)]
+
 ghost use Rattle.rbitcoin_mempool.specs.Answer.{answer};
 ghost use Rattle.rbitcoin_mempool.specs.Rates.{given};
 ghost use Rattle.rbitcoin_mempool.specs.Hold.{args_of};

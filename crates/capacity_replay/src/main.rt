@@ -1,6 +1,8 @@
 // Replays the oracle's questions about edges and capacity. A line of standard input is a function's
 // name and its arguments, a list as its length and its elements; a line of standard output has the
 // results in the same form, of a rate the refusal's number, the mark and the rate.
+#![tactic(auto)]
+
 use libc::STDIN_FILENO;
 use rbitcoin_mempool::answer::RateAnswer;
 use rbitcoin_mempool::fee_est;

@@ -3,6 +3,8 @@
 // length and its elements. A line of standard output has the results in the same form: of a loop or a
 // hold pass the refusal's number or 0, the numbers and the marks; of a lookup the refusal's number or
 // 0, the mark and the rate.
+#![tactic(auto)]
+
 use libc::STDIN_FILENO;
 use rbitcoin_mempool::answer::{Outcome, Rate, RateAnswer};
 use rbitcoin_mempool::fee_est;

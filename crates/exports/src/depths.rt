@@ -13,7 +13,7 @@ use rbitcoin_mempool::fee_est;
 // A rate that may be missing: the mark 1 and its number where it is there. As an argument it is
 // missing under any other mark; as a result it is then 0 and 0.
 #[repr(C)]
-#[derive(Drop)]
+#[derive(Clone, Copy)]
 pub struct MarkedRate {
     pub mark: u8,
     pub rate: u64,

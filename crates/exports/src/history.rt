@@ -24,7 +24,7 @@ use rbitcoin_net::fee_history::{
 // A block: the mark 1 and the rate where it is there, and the byte count. As an argument the rate is
 // missing under any other mark; as a result it is then 0 and 0.
 #[repr(C)]
-#[derive(Drop)]
+#[derive(Clone, Copy)]
 pub struct MarkedBlock {
     pub mark: u8,
     pub rate: u64,
@@ -33,7 +33,7 @@ pub struct MarkedBlock {
 
 // The number of a refusal or 0; whether the height is held, and its block; else zeros.
 #[repr(C)]
-#[derive(Drop)]
+#[derive(Clone, Copy)]
 pub struct BlockFields {
     pub refusal: u8,
     pub held: bool,
@@ -42,7 +42,7 @@ pub struct BlockFields {
 
 // The number of a refusal or 0, and the state.
 #[repr(C)]
-#[derive(Drop)]
+#[derive(Clone, Copy)]
 pub struct HistoryFields {
     pub refusal: u8,
     pub state: FeeHistory,

@@ -7,7 +7,7 @@ use rbitcoin_mempool::fee_flow::FeeFlowMeter;
 
 // The rates of all buckets (WU/s). C returns an array in a struct alone.
 #[repr(C)]
-#[derive(Drop)]
+#[derive(Clone, Copy)]
 pub struct AdmitRates {
     pub wu_s: [u64; 402],
 }

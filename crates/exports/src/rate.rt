@@ -8,7 +8,7 @@ use rbitcoin_mempool::answer::{Outcome, RateAnswer};
 
 // The number of a refusal or 0; 1 where a rate is there and 0 where it is missing; the rate or 0.
 #[repr(C)]
-#[derive(Drop)]
+#[derive(Clone, Copy)]
 pub struct RateFields {
     pub refusal: u8,
     pub mark: u8,

@@ -17,7 +17,7 @@ use rbitcoin_mempool::fee_analog::{AnalogHistory, Update};
 
 // The number of a refusal or 0, and the state.
 #[repr(C)]
-#[derive(Drop)]
+#[derive(Clone, Copy)]
 pub struct UpdateFields {
     pub refusal: u8,
     pub state: AnalogHistory,
@@ -25,7 +25,7 @@ pub struct UpdateFields {
 
 // The number of a refusal or 0, and the count or 0.
 #[repr(C)]
-#[derive(Drop)]
+#[derive(Clone, Copy)]
 pub struct CountFields {
     pub refusal: u8,
     pub count: usize,

@@ -1,26 +1,28 @@
 // Reads depth rates and targets from standard input and writes the quotes, or the first bad line
 // (document 01, case M). The text that is written for an input is `quote_board`'s definition
 // `feequote`; here stand the calls that read and write.
+#![tactic(auto)]
+
 ghost use Rattle.quote_lines.specs.Store.{state_of, new_reader};
 ghost use Rattle.feequote.specs.Reads.{Fed, reader_after, Through, Answered, TextOfSome};
 
 use libc::{STDERR_FILENO, STDIN_FILENO, STDOUT_FILENO};
 use quote_lines::board::{Board, Reader, feed, finish, new};
 
-#[derive(Drop)]
+#[derive(Clone, Copy)]
 enum Part {
     More(Reader),
     End,
     Failed,
 }
 
-#[derive(Drop)]
+#[derive(Clone, Copy)]
 enum Whole {
     Read(Reader),
     Failed,
 }
 
-#[derive(Drop)]
+#[derive(Clone, Copy)]
 enum Answer {
     Written(usize),
     Unread,

@@ -1,5 +1,7 @@
 // Inputs that `feequote` has to answer; each answer is followed by a line `--`. What is written is held to the
 // file stdout, which was worked out by hand from document 01.
+#![tactic(auto)]
+
 use libc::STDOUT_FILENO;
 use quote_lines::board::{Board, feed, finish, new};
 

@@ -3,6 +3,8 @@
 // each: the call and its block are worked out from them. `calls` has a budget, targets and calls on a
 // history of 24 places, and is answered by digests. `rates` says how its blocks are worked out, which are
 // connected to a history of 2,304 places; it has two targets.
+#![tactic(auto)]
+
 ghost use Rattle.std.specs.Prelude.{◌≤◌};
 
 use libc::STDIN_FILENO;
@@ -115,7 +117,7 @@ fn called(
 
 // The history after some calls, and the digest of their refusals and of the block that each left at its
 // height.
-#[derive(Drop)]
+#[derive(Clone, Copy)]
 struct Replayed {
     state: FeeHistory,
     digest: u64,

@@ -3,6 +3,8 @@
 // an admission), a weight, a rate and a clock. A line of standard output has the meter after the
 // calls: the fullness, the total, the decay clock, a digest of the rates and one of the rates as
 // whole numbers.
+#![tactic(auto)]
+
 use libc::STDIN_FILENO;
 use rbitcoin_mempool::fee_flow::FeeFlowMeter;
 use replay_lines::{bits_of, digests, put, word_at};

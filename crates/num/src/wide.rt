@@ -4,20 +4,20 @@ ghost use Rattle.std.specs.Prelude.{◌≡◌, ◌+◌, ◌*◌, ◌^◌, ◌<�
 ghost use Rattle.num.specs.Wide.{value, wrapping_sum, divided, IsDivision};
 
 #[repr(C)]
-#[derive(Drop)]
+#[derive(Clone, Copy)]
 pub struct Wide {
     pub hi: u64,
     pub lo: u64,
 }
 
 #[repr(C)]
-#[derive(Drop)]
+#[derive(Clone, Copy)]
 pub struct WideDivision {
     pub quotient: Wide,
     pub remainder: u64,
 }
 
-#[derive(Drop)]
+#[derive(Clone, Copy)]
 struct Division {
     quotient: u64,
     remainder: u64,

@@ -1,5 +1,7 @@
 // Replays the oracle's questions about the crate `num`. A line of standard input is a function's name
 // and its arguments, and a line of standard output its results, a NaN as `nan`.
+#![tactic(auto)]
+
 use libc::STDIN_FILENO;
 use num::wide::{Wide, WideDivision};
 use replay_lines::{float_of, put};

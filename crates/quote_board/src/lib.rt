@@ -1,5 +1,7 @@
 // What `feequote` answers, as text: the quotes of a board, or its first bad line (document 01,
 // case M). The text goes to an array that the caller lends; places past it are left as found.
+#![tactic(auto)]
+
 ghost use Rattle.std.specs.Prelude.{◌≡◌, [], ◌∷◌, ◌++◌, ◌+◌, ◌*◌, ◌≤◌, ◌<◌, min, length};
 ghost use Rattle.io.specs.Counts.{IsPrefixLen};
 ghost use Rattle.rbitcoin_mempool.specs.Answer.{answer};

@@ -12,7 +12,7 @@ const MOST: u8 = 64;
 
 // How many entries and targets the lines gave, and the number of the first bad line, 0 while there
 // is none.
-#[derive(Drop)]
+#[derive(Clone, Copy)]
 pub struct Counts {
     pub depths: u8,
     pub targets: u8,
@@ -20,7 +20,7 @@ pub struct Counts {
 }
 
 // Between two bytes: what the line says so far, what its last field says so far, and the counts.
-#[derive(Drop)]
+#[derive(Clone, Copy)]
 pub struct Reader {
     pub line: Line,
     pub field: Field,
@@ -28,7 +28,7 @@ pub struct Reader {
 }
 
 // The counts with the entries and the targets themselves.
-#[derive(Drop)]
+#[derive(Clone, Copy)]
 pub struct Board {
     pub counts: Counts,
     pub depths: [u32; 64],

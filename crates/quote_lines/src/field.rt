@@ -3,7 +3,7 @@ ghost use Rattle.std.specs.Prelude.{◌≡◌};
 ghost use Rattle.quote_lines.specs.Machine.{first_byte, digits_on, grown as Machine·grown};
 
 // What the bytes of a field say so far.
-#[derive(Drop)]
+#[derive(Clone, Copy)]
 pub enum Field {
     Empty,
     LetterD,

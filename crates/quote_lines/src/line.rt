@@ -9,7 +9,7 @@ const PAST_U32: u64 = 4294967296;
 
 // What the fields of a line say so far. `Entry` is a depth, its rate and the rate's mark, 1 there
 // and 0 missing.
-#[derive(Drop)]
+#[derive(Clone, Copy)]
 pub enum Line {
     Nothing,
     AfterD,

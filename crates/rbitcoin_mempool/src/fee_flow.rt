@@ -15,7 +15,7 @@ const LN_2: f64 = 0.6931471805599453;
 const LEAST_SECS: f64 = 0.001;
 
 #[repr(C)]
-#[derive(Drop)]
+#[derive(Clone, Copy)]
 pub struct FeeFlowMeter {
     pub admit_wu_s: [f64; 402],
     // Decayed admitted weight (WU).

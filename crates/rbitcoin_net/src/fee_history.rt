@@ -40,7 +40,7 @@ use slices::moves::{copy_front, copy_front_u8, copy_front_u32};
 pub const RECENT_HASHES: usize = 144;
 
 // A held block: its byte count, and its rate, which is there with its number or missing.
-#[derive(Drop)]
+#[derive(Clone, Copy)]
 pub struct HistoricalFeeBlock {
     pub p10_sat_kvb: Rate,
     pub txstat_bytes: u64,
@@ -48,7 +48,7 @@ pub struct HistoricalFeeBlock {
 
 // A hash, or none.
 #[repr(C)]
-#[derive(Drop)]
+#[derive(Clone, Copy)]
 pub struct BlockHash {
     pub there: bool,
     pub bytes: [u8; 32],
@@ -57,7 +57,7 @@ pub struct BlockHash {
 // `count` rows from place `start` on, of the windows' capacity; `hashes` hashes from place 0 on; and while nothing has
 // changed since, the last answer of `rates`, numbers and marks.
 #[repr(C)]
-#[derive(Drop)]
+#[derive(Clone, Copy)]
 pub struct FeeHistory {
     pub analog: AnalogHistory,
     pub analog_stale: bool,
@@ -72,14 +72,14 @@ pub struct FeeHistory {
 }
 
 // What a call leaves, and whether it was refused; a refused call leaves the state as it was.
-#[derive(Drop)]
+#[derive(Clone, Copy)]
 pub struct HistoryUpdate {
     pub outcome: Outcome,
     pub state: FeeHistory,
 }
 
 // The block of a height, none, or the number of a refusal.
-#[derive(Drop)]
+#[derive(Clone, Copy)]
 pub enum BlockAnswer {
     Held(HistoricalFeeBlock),
     Nothing,

@@ -1,2 +1,4 @@
 // The fee history of rbitcoin-net, above the estimator.
+#![tactic(auto)]
+
 pub mod fee_history;

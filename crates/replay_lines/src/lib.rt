@@ -1,6 +1,8 @@
 // What the replay programs share: reading the questions, digests, and writing the answers. A line is a
 // name, then words of 16 hexadecimal digits in lower case, each after a space, a newline at the end.
 // A list is its length and its elements.
+#![tactic(auto)]
+
 pub mod digests;
 pub mod put;
 

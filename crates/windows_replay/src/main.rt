@@ -3,6 +3,8 @@
 // same form, of a rate the refusal's number, the mark and the rate. `windows` has targets and calls on
 // windows of 24 places, each a kind (0 and 1 push, 2 and 3 pop, behind and in front, 4 rebuilds) and a
 // word, and is answered by digests. `rate_sat_kvb` says how its hurdles are worked out.
+#![tactic(auto)]
+
 ghost use Rattle.std.specs.Prelude.{◌≤◌, length};
 ghost use Rattle.io.specs.Counts.{IsPrefixLen};
 
@@ -103,7 +105,7 @@ fn called(
 }
 
 // The windows after some calls, and the digest of the refusals so far.
-#[derive(Drop)]
+#[derive(Clone, Copy)]
 struct Replayed {
     state: AnalogHistory,
     refusals: u64,

@@ -20,7 +20,7 @@ use crate::answer::{CountAnswer, Outcome, RateAnswer};
 
 // Up to 16 targets, the places past their number `tracked` 0; `count` hurdles from place `start` on, of `capacity`.
 #[repr(C)]
-#[derive(Drop)]
+#[derive(Clone, Copy)]
 pub struct AnalogHistory {
     pub targets: [u32; 16],
     pub tracked: usize,
@@ -30,7 +30,7 @@ pub struct AnalogHistory {
 }
 
 // What a call leaves, and whether it was refused; a refused call leaves the state as it was.
-#[derive(Drop)]
+#[derive(Clone, Copy)]
 pub struct Update {
     pub outcome: Outcome,
     pub state: AnalogHistory,

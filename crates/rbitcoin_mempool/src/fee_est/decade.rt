@@ -7,7 +7,7 @@ ghost use Rattle.rbitcoin_mempool.specs.Decade.{half_unit, InDecade, Ranked, eig
 use super::edges::{FLOW_BUCKET_EDGE_COUNT, FLOW_BUCKETS_PER_DECADE};
 
 // The place of the first of five edges of a decade, and the five.
-#[derive(Drop)]
+#[derive(Clone, Copy)]
 struct Five(usize, u64, u64, u64, u64, u64);
 
 // Five edges from the first in an eighth on; for the last eighth the last five.

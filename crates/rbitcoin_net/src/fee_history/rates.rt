@@ -18,7 +18,7 @@ use rbitcoin_mempool::fee_analog::{AnalogHistory, historical_confidence_far};
 use rbitcoin_mempool::fee_est::CONFIDENCE_NEAR;
 
 // The tracked targets' rates, numbers and marks; the places past them are 0.
-#[derive(Drop)]
+#[derive(Clone, Copy)]
 pub(crate) struct RateSlots {
     pub(crate) numbers: [u64; 16],
     pub(crate) marks: [u8; 16],

@@ -1,0 +1,6 @@
+-- `num::exp::scaled` meets its contract, by what `series` ensures. Assumes nothing.
+use Rattle.std.proofs.Common.{rules}
+use Rattle.num.proofs.exp.scaled.Goals as goal
+
+pub returns : goal.returns
+returns c = cc

@@ -1,0 +1,13 @@
+-- `num::float::whole_below` meets its contract. Assumes nothing.
+use lib.Ieee.{of_bits}
+use lib.Ieee.Bits.{is_true}
+use Rattle.num.proofs.Floors.{landed-above, landed-within}
+use Rattle.num.proofs.float.whole_below.Goals as goal
+
+pub returns-then-x-k : goal.returns-then-x-k
+unfolding of_bits
+returns-then-x-k c = landed-above c.args.x (is_true _ c.requires.t) (is_true _ c.requires.t_2) c.if-x-k.true
+
+pub returns : goal.returns
+unfolding of_bits
+returns c = landed-within c.args.x (is_true _ c.requires.t) (is_true _ c.requires.t_2) c.if-x-k.false

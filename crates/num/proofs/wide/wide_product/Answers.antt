@@ -1,0 +1,37 @@
+-- `num::wide::wide_product` meets its contract, by `proofs/WideProduct.antt`. Assumes nothing.
+use Rattle.std.proofs.Common.{arith, rules}
+use Rattle.num.specs.Wide.{value}
+use Rattle.num.proofs.WideProduct.{Product, product, of-halves}
+use Rattle.num.proofs.wide.wide_product.Goals as goal
+
+of : (c : goal.Start) → Product c.args.a c.args.b
+of c = product c.args.a c.args.b c.type_inv.a.fits c.type_inv.b.fits
+
+pub overflow_mul-low : goal.overflow_mul-low
+overflow_mul-low c = omega (arith, (of c).lower)
+
+pub overflow_mul-one : goal.overflow_mul-one
+overflow_mul-one c = omega (arith, (of c).left)
+
+pub overflow_mul-two : goal.overflow_mul-two
+overflow_mul-two c = omega (arith, (of c).right)
+
+pub overflow_add-middle : goal.overflow_add-middle
+overflow_add-middle c = record { fits = (of c).second }
+
+pub overflow_add-other : goal.overflow_add-other
+overflow_add-other c = record { fits = (of c).third }
+
+pub overflow_mul-result : goal.overflow_mul-result
+overflow_mul-result c = omega (arith, (of c).upper)
+
+pub overflow_add-result : goal.overflow_add-result
+overflow_add-result c = record { fits = (of c).carried }
+
+pub overflow_add-result-2 : goal.overflow_add-result-2
+overflow_add-result-2 c = record { fits = (of c).top }
+
+pub returns : goal.returns
+unfolding value
+returns c =
+    cc (c.wrapping_add_u64.ensures.value, c.wrapping_add_u64-sum.ensures.value, (of c).low_word, (of c).whole, of-halves c.args.a c.args.b)

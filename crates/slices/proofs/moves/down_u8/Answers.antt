@@ -1,0 +1,34 @@
+-- `slices::moves::down_u8` meets its contract. The loop's invariant is `Down`. Assumes nothing.
+use Rattle.std.proofs.Common.{◌-◌, arith}
+use Rattle.slices.proofs.Moving.{Down, down-start, down-next, down_end}
+use Rattle.slices.proofs.moves.down_u8.Goals as goal
+
+pub loop-i-init : goal.loop-i-init
+loop-i-init c = down-start
+
+pub overflow_add-xs : goal.overflow_add-xs
+overflow_add-xs c = omega arith
+
+pub bounds-xs-from : goal.bounds-xs-from
+bounds-xs-from c = omega arith
+
+pub overflow_add-xs-in-loop-i : goal.overflow_add-xs-in-loop-i
+overflow_add-xs-in-loop-i c = omega arith
+
+pub bounds-xs-to : goal.bounds-xs-to
+bounds-xs-to c = omega arith
+
+pub overflow_add-i : goal.overflow_add-i
+overflow_add-i c = omega arith
+
+pub loop-i-smaller : goal.loop-i-smaller
+loop-i-smaller c = omega arith
+
+pub loop-i-preserved : goal.loop-i-preserved
+loop-i-preserved c = down-next 0 c.loop-i.invariant c.requires (omega arith)
+
+pub shape_of-xs : goal.shape_of-xs
+shape_of-xs c = c.loop-i.invariant.long
+
+pub returns : goal.returns
+returns c = down_end c.loop-i.invariant (omega arith)

@@ -1,0 +1,10 @@
+-- `slices::moves::down_u8` meets its contract. The loop's invariant is `Down`. Assumes nothing.
+use Rattle.std.proofs.Common.{◌-◌, arith}
+use Rattle.slices.proofs.Moving.{Down, down-start, down-next, down_end}
+use Rattle.slices.proofs.moves.down_u8.Given as goal
+
+abbrev pub invariant-loop-i : goal.invariant-loop-i
+invariant-loop-i l = Down l.initial.xs l.to l.from l.n l.xs l.i
+
+abbrev pub decreases-loop-i : goal.decreases-loop-i
+decreases-loop-i l = l.n - l.i
