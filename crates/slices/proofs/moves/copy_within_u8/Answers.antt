@@ -2,22 +2,23 @@
 use Rattle.std.proofs.Common.{arith, rules}
 use Rattle.slices.proofs.Moving.{stays, fits, moves}
 use Rattle.slices.proofs.Runs.{copy-same}
+use Rattle.std.proofs.lemmas.Bool.{not_from_true, not_from_false}
 use Rattle.slices.proofs.moves.copy_within_u8.Goals as goal
 
 pub returns-then-to-from : goal.returns-then-to-from
 returns-then-to-from c = copy-same c.args.xs.now _ _ _ c.if-to-from.true
 
 pub returns-then-not-both_fit : goal.returns-then-not-both_fit
-returns-then-not-both_fit c = stays c.args.xs.now _ _ _ c.both_fit.ensures c.if-not-both_fit.true
+returns-then-not-both_fit c = stays c.args.xs.now _ _ _ c.both_fit.ensures (not_from_false _ c.if-not-both_fit.true)
 
 pub down_u8-requires : goal.down_u8-requires
-down_u8-requires c = (c.if-to-from-2.true, (fits c.args.xs.now _ _ _ c.both_fit.ensures c.if-not-both_fit.false).1)
+down_u8-requires c = (c.if-to-from-2.true, (fits c.args.xs.now _ _ _ c.both_fit.ensures (not_from_true _ c.if-not-both_fit.false)).1)
 
 pub up_u8-requires : goal.up_u8-requires
-up_u8-requires c = (omega arith, (fits c.args.xs.now _ _ _ c.both_fit.ensures c.if-not-both_fit.false).0)
+up_u8-requires c = (omega arith, (fits c.args.xs.now _ _ _ c.both_fit.ensures (not_from_true _ c.if-not-both_fit.false)).0)
 
 pub returns-then-to-from-2 : goal.returns-then-to-from-2
-returns-then-to-from-2 c = moves c.args.xs.now _ _ _ c.both_fit.ensures c.if-not-both_fit.false c.down_u8.ensures
+returns-then-to-from-2 c = moves c.args.xs.now _ _ _ c.both_fit.ensures (not_from_true _ c.if-not-both_fit.false) c.down_u8.ensures
 
 pub returns-else-to-from-2 : goal.returns-else-to-from-2
-returns-else-to-from-2 c = moves c.args.xs.now _ _ _ c.both_fit.ensures c.if-not-both_fit.false c.up_u8.ensures
+returns-else-to-from-2 c = moves c.args.xs.now _ _ _ c.both_fit.ensures (not_from_true _ c.if-not-both_fit.false) c.up_u8.ensures

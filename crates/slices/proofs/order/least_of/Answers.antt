@@ -14,7 +14,4 @@ loop-i-preserved c =
 
 pub returns : goal.returns
 returns c =
-    let e = c.smaller-3.ensures in
-    let f = c.smaller-2.ensures in
-    let g = c.smaller.ensures in
-    c.least_from.ensures ∙ rw (e, f, g) c.loop-i.invariant.1
+    c.least_from.ensures ∙ rw (c.smaller-3.ensures, c.smaller-2.ensures, c.smaller.ensures) c.loop-i.invariant.1

@@ -3,4 +3,4 @@ use Rattle.std.proofs.Common.{sym, length-take-le, rules}
 use Rattle.slices.proofs.order.pivot.Goals as goal
 
 pub slice_bounds-beside-end : goal.slice_bounds-beside-end
-slice_bounds-beside-end c = sym (length-take-le c.gather-n.result c.gather-n.new.1.1.1.1.0 c.gather-n.ensures)
+slice_bounds-beside-end c = sym (length-take-le c.gather-n.result c.gather-n.new.out c.gather-n.ensures)

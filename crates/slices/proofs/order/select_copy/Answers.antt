@@ -1,15 +1,14 @@
 -- `slices::order::select_copy` meets its contract. Assumes nothing.
-use Rattle.std.proofs.Common.{◌≡◌, length, get_or, take, sym, ap, ◌∙◌, rules}
+use Rattle.std.proofs.Common.{◌≡◌, length, get_or, take, sym, ap, ◌∙◌}
 use Rattle.slices.specs.Sorted.{sorted}
 use Rattle.slices.proofs.Runs.{front-copied}
 use Rattle.slices.proofs.order.select_copy.Goals as goal
 
-copied : (c : goal.After-copy_front) → take (length c.args.xs.now) c.copy_front.new.xs ≡ c.args.xs.now
-copied c =
-    ap (take (length c.args.xs.now)) c.copy_front.ensures ∙ front-copied c.args.own.now c.args.xs.now c.requires
-
 pub slice_bounds-select_nth-end-2 : goal.slice_bounds-select_nth-end-2
-slice_bounds-select_nth-end-2 c = sym (ap length (copied c))
+slice_bounds-select_nth-end-2 c =
+    sym (ap length (ap (take (length c.args.xs.now)) c.copy_front.ensures ∙ front-copied c.args.own.now c.args.xs.now c.requires))
 
 pub returns : goal.returns
-returns c = c.select_nth.ensures ∙ ap (λ l. get_or (sorted l) c.args.k 0) (copied c)
+returns c =
+    c.select_nth.ensures
+    ∙ ap (λ l. get_or (sorted l) c.args.k 0) (ap (take (length c.args.xs.now)) c.copy_front.ensures ∙ front-copied c.args.own.now c.args.xs.now c.requires)
