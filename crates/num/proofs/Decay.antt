@@ -1,7 +1,7 @@
 -- The exponential of a number at or below -1/2 lies from 0 to 1: its power of two is at most a half, and its polynomial at most 2. Assumes nothing.
 use Rattle.std.proofs.Common.{◌≡◌, ℕ, zero, suc, ◌+◌, ◌-◌, ◌*◌, ◌^◌, ◌≤◌, Bool, true, false, cond, ◌&&◌, ◌||◌, T, eqb, ltb, ℤ, pos, negsuc, sym, refl, ap, ◌∙◌, subst, not-suc-le-zero, mul-le-mul_left, mul-pos, pow-suc, arith, pow_pos, ltb-true, lt-ltb, eqb-true}
 use borrow.Author.Tests.{lt-leb}
-use lib.Ieee.{Float, nan, inf, fin, binary64, up, down, neg, mul, lt, le, is_nan, of_bits, of_int, round}
+use lib.Ieee.{Float, nan, inf, fin, binary64, up, down, neg, add, mul, div, lt, le, is_nan, of_bits, of_int, round}
 use lib.Ieee.Bits.{is_true}
 use lib.Ieee.Fits.{down_pos}
 use lib.Ieee.Order.{round_mono}
@@ -18,7 +18,7 @@ use Rattle.num.proofs.Reduced.{argument-half}
 turns : (r t : Float) (j : ℕ) → Turn r j t → Turn r 0 (horner r j t)
 unfolding horner
 turns r t zero w = w
-turns r t (suc j) w = turns r _ j (next w)
+turns r t (suc j) w = turns r (add binary64 one (div binary64 (mul binary64 r t) (of_int binary64 (pos (suc j))))) j (next w)
 
 pub horner-up-to : (r : Float) → Size 1 2 r → UpTo 2 1 (horner r 13 one)
 horner-up-to r h = turn_bounded h (turns r one 13 start)

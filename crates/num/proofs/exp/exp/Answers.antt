@@ -1,5 +1,5 @@
 -- `num::exp::exp` meets its contract: each return is a case of `proofs/Exponential.antt`. Assumes nothing.
-use Rattle.std.proofs.Common.{◌≡◌, true, false, ◌∙◌, rules}
+use Rattle.std.proofs.Common.{◌≡◌, true, false, ◌∙◌}
 use Rattle.num.proofs.Exponential.{small-up, small-down, at-nan, at_low, at_high, at_negative, at_positive}
 use Rattle.num.specs.Exp.{log2e, exp_at}
 use Rattle.num.specs.Round.{round_to_u64}

@@ -1,5 +1,4 @@
 -- `num::exp::power_down` meets its contract, by `proofs/Power.antt`. Assumes nothing.
-use Rattle.std.proofs.Common.{rules}
 use Rattle.num.proofs.Power.{power-down, no_nan}
 use Rattle.num.proofs.exp.power_down.Goals as goal
 

@@ -1,5 +1,4 @@
 -- `num::exp::power_up` meets its contract, by `proofs/Power.antt`. Assumes nothing.
-use Rattle.std.proofs.Common.{rules}
 use Rattle.num.proofs.Power.{power-up, no_nan}
 use Rattle.num.proofs.exp.power_up.Goals as goal
 

@@ -1,5 +1,4 @@
 -- `num::exp::scaled` meets its contract, by what `series` ensures. Assumes nothing.
-use Rattle.std.proofs.Common.{rules}
 use Rattle.num.proofs.exp.scaled.Goals as goal
 
 pub returns : goal.returns

@@ -1,7 +1,6 @@
 -- `num::exp::series` meets its contract. The loop's invariant: the steps from j down, at t, give the whole polynomial. The measure is j. Assumes nothing.
-use Rattle.std.proofs.Common.{◌≡◌, sym, ◌∙◌, arith, rules}
+use Rattle.std.proofs.Common.{◌≡◌}
 use Rattle.num.specs.Exp.{one, horner}
-use Rattle.num.proofs.Polynomial.{step, done}
 use Rattle.num.proofs.exp.series.Given as goal
 
 abbrev pub invariant-loop-j : goal.invariant-loop-j

@@ -10,4 +10,4 @@ pub float_to_bits-result : goal.float_to_bits-result
 float_to_bits-result c = a-number c.args.x c.if-x.false
 
 pub returns : goal.returns
-returns c = magnitude c.args.x (subst T (sym c.well-formed.0.1) tt) (a-number c.args.x c.if-x.false)
+returns c = magnitude c.args.x (subst T (sym c.well_formed.0.1) tt) (a-number c.args.x c.if-x.false)

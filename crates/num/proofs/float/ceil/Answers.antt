@@ -1,18 +1,15 @@
 -- `num::float::ceil` meets its contract: above 0 a case of `proofs/Floors.antt`, else the floor of -x, negated. Assumes nothing.
-use Rattle.std.proofs.Common.{false, T, pos, sym, ap, ◌∙◌, subst, rules}
-use lib.Ieee.{Float, fin, binary64, neg, add, of_bits, fits}
+use Rattle.std.proofs.Common.{false, T, pos, sym, ap, ◌∙◌, subst}
+use lib.Ieee.{Float, fin, binary64, neg, add, of_bits}
 use Rattle.num.proofs.Floors.{ceil_floor, ceil_fraction, ceil-whole, ceil_large}
 use Rattle.num.proofs.float.ceil.Goals as goal
-
-held : (c : goal.Start) → T (fits binary64 c.args.x)
-held c = subst T (sym c.well-formed.0.1) tt
 
 pub whole_below-w-requires : goal.whole_below-w-requires
 unfolding of_bits
 whole_below-w-requires c = record {
-      t = subst T (sym c.if-x.true) tt;
-      t_2 = subst T (sym c.if-x-2.true) tt;
-    }
+  t = subst T (sym c.if-x.true) tt;
+  t_2 = subst T (sym c.if-x-2.true) tt;
+}
 
 pub returns-then-w-x : goal.returns-then-w-x
 unfolding of_bits
@@ -30,7 +27,7 @@ returns-else-w-x c =
 
 pub returns-else-x-2 : goal.returns-else-x-2
 unfolding of_bits
-returns-else-x-2 c = ceil_large c.args.x c.if-x.true (held c) c.if-x-2.false
+returns-else-x-2 c = ceil_large c.args.x c.if-x.true (subst T (sym c.well_formed.0.1) tt) c.if-x-2.false
 
 pub returns : goal.returns
 returns c = ap neg c.floor.ensures ∙ ceil_floor c.args.x

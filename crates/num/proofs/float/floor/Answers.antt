@@ -1,11 +1,8 @@
 -- `num::float::floor` meets its contract: each return is a case of `proofs/Floors.antt`. Assumes nothing.
 use Rattle.std.proofs.Common.{◌≡◌, Bool, true, false, T, pos, sym, ap, ◌∙◌, subst}
-use lib.Ieee.{Float, fin, binary64, neg, add, of_bits, fits}
+use lib.Ieee.{Float, fin, binary64, neg, add, of_bits}
 use Rattle.num.proofs.Floors.{positive_fraction, positive-whole, positive_large, negative-above, negative_fraction, negative-whole, negative_large, neither}
 use Rattle.num.proofs.float.floor.Goals as goal
-
-held : (c : goal.Start) → T (fits binary64 c.args.x)
-held c = subst T (sym c.well-formed.0.1) tt
 
 true-is : (b : Bool) → b ≡ true → T b
 true-is b e = subst T (sym e) tt
@@ -13,9 +10,9 @@ true-is b e = subst T (sym e) tt
 pub whole_below-w-requires : goal.whole_below-w-requires
 unfolding of_bits
 whole_below-w-requires c = record {
-      t = true-is _ c.if-x.true;
-      t_2 = true-is _ c.if-x-2.true;
-    }
+  t = true-is _ c.if-x.true;
+  t_2 = true-is _ c.if-x-2.true;
+}
 
 pub returns-then-w-x : goal.returns-then-w-x
 unfolding of_bits
@@ -32,14 +29,14 @@ returns-else-w-x c =
 
 pub returns-else-x-2 : goal.returns-else-x-2
 unfolding of_bits
-returns-else-x-2 c = positive_large c.args.x c.if-x.true (held c) c.if-x-2.false
+returns-else-x-2 c = positive_large c.args.x c.if-x.true (true-is _ c.well_formed.0.1) c.if-x-2.false
 
 pub whole_below-w-requires-then-x-4 : goal.whole_below-w-requires-then-x-4
 unfolding of_bits
 whole_below-w-requires-then-x-4 c = record {
-      t = true-is _ (negative-above c.args.x c.if-x-3.true);
-      t_2 = true-is _ c.if-x-4.true;
-    }
+  t = true-is _ (negative-above c.args.x c.if-x-3.true);
+  t_2 = true-is _ c.if-x-4.true;
+}
 
 pub returns-then-w-x-2 : goal.returns-then-w-x-2
 unfolding of_bits
@@ -57,7 +54,7 @@ returns-else-w-x-2 c =
 
 pub returns-else-x-4 : goal.returns-else-x-4
 unfolding of_bits
-returns-else-x-4 c = negative_large c.args.x c.if-x-3.true (held c) c.if-x-4.false
+returns-else-x-4 c = negative_large c.args.x c.if-x-3.true (true-is _ c.well_formed.0.1) c.if-x-4.false
 
 pub returns-else-x-3 : goal.returns-else-x-3
 unfolding of_bits

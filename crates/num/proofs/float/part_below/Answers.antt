@@ -1,5 +1,5 @@
 -- `num::float::part_below` meets its contract. Assumes nothing.
-use Rattle.std.proofs.Common.{◌≡◌, ℕ, ◌+◌, ◌-◌, ◌≤◌, arith, rules}
+use Rattle.std.proofs.Common.{◌≡◌, ℕ, ◌+◌, ◌-◌, ◌≤◌, arith}
 use lib.Ieee.{of_bits}
 use lib.Ieee.Bits.{is_true}
 use Rattle.num.proofs.Floors.{landed_cast}

@@ -1,5 +1,5 @@
 -- `num::float::to_u64` meets its contract: each return is a case of `proofs/Casts.antt`, or that of `part_below`. Assumes nothing.
-use Rattle.std.proofs.Common.{T, sym, subst, rules}
+use Rattle.std.proofs.Common.{T, sym, subst}
 use lib.Ieee.{of_bits}
 use Rattle.num.proofs.Casts.{at_top, within, at_bottom}
 use Rattle.num.proofs.float.to_u64.Goals as goal
@@ -7,13 +7,15 @@ use Rattle.num.proofs.float.to_u64.Goals as goal
 pub part_below-requires : goal.part_below-requires
 unfolding of_bits
 part_below-requires c = record {
-      t = subst T (sym c.if-x.true) tt;
-      t_2 = subst T (sym c.if-x-2.true) tt;
-    }
+  t = subst T (sym c.if-x.true) tt;
+  t_2 = subst T (sym c.if-x-2.true) tt;
+}
 
 pub truncating_f64_to_u64-requires : goal.truncating_f64_to_u64-requires
 unfolding of_bits
-truncating_f64_to_u64-requires c = within c.args.x c.if-x.true c.if-x-3.true
+truncating_f64_to_u64-requires c =
+    let r = within c.args.x c.if-x.true c.if-x-3.true in
+    record { lower_bound = r.0; upper_bound = r.1 }
 
 pub returns-then-x : goal.returns-then-x
 unfolding of_bits

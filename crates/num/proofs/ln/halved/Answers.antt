@@ -1,12 +1,12 @@
 -- `num::ln::halved` meets its contract, by `proofs/Halved.antt`. Assumes nothing.
-use Rattle.std.proofs.Common.{T, sym, subst, rules}
+use Rattle.std.proofs.Common.{T, sym, subst}
 use lib.Ieee.{binary64, fits}
 use Rattle.num.proofs.Fields.{is_number}
 use Rattle.num.proofs.Halved.{halved_times}
 use Rattle.num.proofs.ln.halved.Goals as goal
 
 held : (c : goal.Start) → T (fits binary64 c.args.x)
-held c = subst T (sym c.well-formed.0.1) tt
+held c = subst T (sym c.well_formed.0.1) tt
 
 pub float_to_bits-bits : goal.float_to_bits-bits
 float_to_bits-bits c = is_number c.args.x c.requires.0

@@ -1,7 +1,6 @@
 -- `num::ln::series` meets its contract. The loop's invariant: the steps from j down, at t, give the whole polynomial. The measure is j. Assumes nothing.
-use Rattle.std.proofs.Common.{◌≡◌, ◌≤◌, sym, refl, ◌∙◌, arith, rules}
+use Rattle.std.proofs.Common.{sym, refl, ◌∙◌, arith}
 use lib.Ieee.{of_bits, of_int}
-use Rattle.num.specs.Ln.{reciprocal, terms}
 use Rattle.num.proofs.Logarithm.{step, done}
 use Rattle.num.proofs.ln.series.Goals as goal
 
@@ -11,8 +10,7 @@ loop-j-init c = (refl, omega arith)
 
 pub loop-j-preserved : goal.loop-j-preserved
 loop-j-preserved c =
-    let at-loop = c in
-    (step at-loop.before.args.z at-loop.loop.t at-loop.loop.j (omega arith) ∙ at-loop.loop.invariant.0, omega arith)
+    (step c.args.z c.loop-j.t c.loop-j.j (omega arith) ∙ c.loop-j.invariant.0, omega arith)
 
 pub returns : goal.returns
 returns c = sym (done c.args.z c.loop-j.t c.loop-j.j (omega arith)) ∙ c.loop-j.invariant.0

@@ -1,8 +1,6 @@
 -- `num::ln::series` meets its contract. The loop's invariant: the steps from j down, at t, give the whole polynomial. The measure is j. Assumes nothing.
-use Rattle.std.proofs.Common.{◌≡◌, ◌≤◌, sym, refl, ◌∙◌, arith, rules}
-use lib.Ieee.{of_bits, of_int}
+use Rattle.std.proofs.Common.{◌≡◌, ◌≤◌}
 use Rattle.num.specs.Ln.{reciprocal, terms}
-use Rattle.num.proofs.Logarithm.{step, done}
 use Rattle.num.proofs.ln.series.Given as goal
 
 abbrev pub invariant-loop-j : goal.invariant-loop-j

@@ -1,5 +1,4 @@
 -- `num::ln::sum` meets its contract, by what `series` ensures. Assumes nothing.
-use Rattle.std.proofs.Common.{rules}
 use Rattle.num.proofs.ln.sum.Goals as goal
 
 pub returns : goal.returns

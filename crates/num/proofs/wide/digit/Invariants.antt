@@ -1,6 +1,5 @@
 -- `num::wide::digit` meets its contract, by `proofs/WideDigit.antt`. The loop keeps a `Trial`, and the trial digit falls. Assumes nothing.
-use Rattle.std.proofs.Common.{◌+◌, ◌*◌, ◌/◌, ◌%◌, ◌^◌, ◌<◌, ◌≤◌, ⊎_elim, div-add-mod', arith}
-use Rattle.num.proofs.WideDigit.{Trial, first, product-fits, factor-above-zero, again, done}
+use Rattle.num.proofs.WideDigit.{Trial}
 use Rattle.num.proofs.wide.digit.Given as goal
 
 abbrev pub invariant-loop-left : goal.invariant-loop-left

@@ -1,5 +1,5 @@
 -- `num::wide::divide_short` meets its contract, by `proofs/WideDivision.antt`. Assumes nothing.
-use Rattle.std.proofs.Common.{◌+◌, ◌*◌, ◌/◌, ◌%◌, ◌^◌, ◌<◌, mod-lt, arith, rules}
+use Rattle.std.proofs.Common.{◌+◌, ◌*◌, ◌/◌, ◌%◌, ◌^◌, ◌<◌, mod-lt, arith}
 use Rattle.num.proofs.WideDivision.{TwoDigits, plain, two_digits}
 use Rattle.num.proofs.wide.divide_short.Goals as goal
 
@@ -10,7 +10,7 @@ digits : (c : goal.Start) →
     let n = c.args.hi * 2 ^ 32 + c.args.lo / 2 ^ 32 in
     let m = n % c.args.d * 2 ^ 32 + c.args.lo % 2 ^ 32 in
     TwoDigits (c.args.hi * 2 ^ 64 + c.args.lo) c.args.d (n / c.args.d) (m / c.args.d) (m % c.args.d)
-digits c = two_digits c.args.hi c.args.lo c.requires.0 c.type_inv.lo.fits (plain _ (omega arith)) (plain _ (omega arith))
+digits c = two_digits c.args.hi c.args.lo c.requires.0 c.ranges.lo.fits (plain _ (omega arith)) (plain _ (omega arith))
 
 pub overflow_mul-second : goal.overflow_mul-second
 overflow_mul-second c = omega (arith, left c)

@@ -1,5 +1,5 @@
 -- `num::wide::divide_word` meets its contract: each return is a division of its own. Assumes nothing.
-use Rattle.std.proofs.Common.{arith, rules}
+use Rattle.std.proofs.Common.{arith}
 use Rattle.num.proofs.WideDivision.{upper-zero}
 use Rattle.num.proofs.wide.divide_word.Goals as goal
 

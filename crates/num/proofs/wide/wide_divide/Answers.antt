@@ -1,5 +1,5 @@
 -- `num::wide::wide_divide` meets its contract: the lower word is one digit more to the base 2 ^ 64. Assumes nothing.
-use Rattle.std.proofs.Common.{◌^◌, mod-lt, arith, rules}
+use Rattle.std.proofs.Common.{◌^◌, mod-lt, arith}
 use Rattle.num.specs.Wide.{value}
 use Rattle.num.proofs.WideDivision.{plain, plain-below, next, is-divided, by_zero}
 use Rattle.num.proofs.wide.wide_divide.Goals as goal

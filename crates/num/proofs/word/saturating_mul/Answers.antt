@@ -1,5 +1,5 @@
 -- `num::word::saturating_mul` meets its contract: the upper word of the product is 0 exactly where the product fits. Assumes nothing.
-use Rattle.std.proofs.Common.{arith, rules}
+use Rattle.std.proofs.Common.{arith}
 use Rattle.num.proofs.WideLaws.{no_upper_word, upper_word}
 use Rattle.num.proofs.WideProduct.{small}
 use Rattle.num.proofs.word.saturating_mul.Goals as goal
