@@ -1,7 +1,7 @@
 -- `slices::moves::copy_front` meets its contract. The loop's invariant is `Front`. Assumes nothing.
-use Rattle.std.proofs.Common.{◌-◌, length, arith, rules}
+use Rattle.std.proofs.Common.{arith}
 use Rattle.slices.proofs.Runs.{front-none}
-use Rattle.slices.proofs.Moving.{Front, front-start, front-next, front_end}
+use Rattle.slices.proofs.Moving.{front-start, front-next, front_end}
 use Rattle.slices.proofs.moves.copy_front.Goals as goal
 
 pub returns-then-xs-from : goal.returns-then-xs-from

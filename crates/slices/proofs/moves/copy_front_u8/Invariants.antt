@@ -1,7 +1,6 @@
 -- `slices::moves::copy_front_u8` meets its contract. The loop's invariant is `Front`. Assumes nothing.
-use Rattle.std.proofs.Common.{◌-◌, length, arith, rules}
-use Rattle.slices.proofs.Runs.{front-none}
-use Rattle.slices.proofs.Moving.{Front, front-start, front-next, front_end}
+use Rattle.std.proofs.Common.{◌-◌, length}
+use Rattle.slices.proofs.Moving.{Front}
 use Rattle.slices.proofs.moves.copy_front_u8.Given as goal
 
 abbrev pub invariant-loop-i : goal.invariant-loop-i

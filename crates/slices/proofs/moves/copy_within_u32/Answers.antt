@@ -1,5 +1,5 @@
 -- `slices::moves::copy_within_u32` meets its contract. Assumes nothing.
-use Rattle.std.proofs.Common.{arith, rules}
+use Rattle.std.proofs.Common.{arith}
 use Rattle.slices.proofs.Moving.{stays, fits, moves}
 use Rattle.slices.proofs.Runs.{copy-same}
 use Rattle.std.proofs.lemmas.Bool.{not_from_true, not_from_false}

@@ -1,7 +1,7 @@
 -- `slices::moves::down_f64` meets its contract. The loop's invariant is `Down`. Assumes nothing.
-use Rattle.std.proofs.Common.{◌-◌, arith}
+use Rattle.std.proofs.Common.{arith}
 use lib.Ieee.{nan}
-use Rattle.slices.proofs.Moving.{Down, down-start, down-next, down_end}
+use Rattle.slices.proofs.Moving.{down-start, down-next, down_end}
 use Rattle.slices.proofs.moves.down_f64.Goals as goal
 
 pub loop-i-init : goal.loop-i-init

@@ -1,7 +1,6 @@
 -- `slices::moves::down_f64` meets its contract. The loop's invariant is `Down`. Assumes nothing.
-use Rattle.std.proofs.Common.{◌-◌, arith}
-use lib.Ieee.{nan}
-use Rattle.slices.proofs.Moving.{Down, down-start, down-next, down_end}
+use Rattle.std.proofs.Common.{◌-◌}
+use Rattle.slices.proofs.Moving.{Down}
 use Rattle.slices.proofs.moves.down_f64.Given as goal
 
 abbrev pub invariant-loop-i : goal.invariant-loop-i

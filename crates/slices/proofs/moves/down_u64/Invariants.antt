@@ -1,6 +1,6 @@
 -- `slices::moves::down_u64` meets its contract. The loop's invariant is `Down`. Assumes nothing.
-use Rattle.std.proofs.Common.{◌-◌, arith}
-use Rattle.slices.proofs.Moving.{Down, down-start, down-next, down_end}
+use Rattle.std.proofs.Common.{◌-◌}
+use Rattle.slices.proofs.Moving.{Down}
 use Rattle.slices.proofs.moves.down_u64.Given as goal
 
 abbrev pub invariant-loop-i : goal.invariant-loop-i

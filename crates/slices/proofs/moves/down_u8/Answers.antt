@@ -1,6 +1,6 @@
 -- `slices::moves::down_u8` meets its contract. The loop's invariant is `Down`. Assumes nothing.
-use Rattle.std.proofs.Common.{◌-◌, arith}
-use Rattle.slices.proofs.Moving.{Down, down-start, down-next, down_end}
+use Rattle.std.proofs.Common.{arith}
+use Rattle.slices.proofs.Moving.{down-start, down-next, down_end}
 use Rattle.slices.proofs.moves.down_u8.Goals as goal
 
 pub loop-i-init : goal.loop-i-init

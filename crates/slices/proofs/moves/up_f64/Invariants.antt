@@ -1,7 +1,5 @@
 -- `slices::moves::up_f64` meets its contract. The loop's invariant is `Up`. Assumes nothing.
-use Rattle.std.proofs.Common.{arith}
-use lib.Ieee.{nan}
-use Rattle.slices.proofs.Moving.{Up, up_start, up_next, up_end}
+use Rattle.slices.proofs.Moving.{Up}
 use Rattle.slices.proofs.moves.up_f64.Given as goal
 
 abbrev pub invariant-loop-i : goal.invariant-loop-i

@@ -1,6 +1,6 @@
 -- `slices::moves::up_u32` meets its contract. The loop's invariant is `Up`. Assumes nothing.
 use Rattle.std.proofs.Common.{arith}
-use Rattle.slices.proofs.Moving.{Up, up_start, up_next, up_end}
+use Rattle.slices.proofs.Moving.{up_start, up_next, up_end}
 use Rattle.slices.proofs.moves.up_u32.Goals as goal
 
 pub loop-i-init : goal.loop-i-init

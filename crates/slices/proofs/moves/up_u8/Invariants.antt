@@ -1,6 +1,5 @@
 -- `slices::moves::up_u8` meets its contract. The loop's invariant is `Up`. Assumes nothing.
-use Rattle.std.proofs.Common.{arith}
-use Rattle.slices.proofs.Moving.{Up, up_start, up_next, up_end}
+use Rattle.slices.proofs.Moving.{Up}
 use Rattle.slices.proofs.moves.up_u8.Given as goal
 
 abbrev pub invariant-loop-i : goal.invariant-loop-i

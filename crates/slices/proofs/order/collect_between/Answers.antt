@@ -11,8 +11,8 @@ pub loop-i-preserved : goal.loop-i-preserved
 loop-i-preserved c =
     let e = c.is_between.ensures in
     elim c.if-is_between.branch [
-    then-is_between w ↦ rw w.n-is (collect_in _ _ _ _ _ _ _ c.loop-i.invariant c.requires.xs_in_bounds (omega arith) (sym e ∙ w.if-is_between.true))
-    | else-is_between w ↦ rw w.n-is (collect-past _ _ _ _ _ _ _ c.loop-i.invariant c.requires.xs_in_bounds (omega arith) (sym e ∙ w.if-is_between.false))
+      | then-is_between w ↦ rw w.n-is (collect_in _ _ _ _ _ _ _ c.loop-i.invariant c.requires.xs_in_bounds (omega arith) (sym e ∙ w.if-is_between.true))
+      | else-is_between w ↦ rw w.n-is (collect-past _ _ _ _ _ _ _ c.loop-i.invariant c.requires.xs_in_bounds (omega arith) (sym e ∙ w.if-is_between.false))
     ]
 
 pub shape_of-out : goal.shape_of-out

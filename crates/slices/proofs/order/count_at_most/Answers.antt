@@ -12,8 +12,8 @@ loop-i-preserved c =
     let v = c.args.v in
     let r : i < length xs = omega arith in
     elim c.if-xs-i.branch [
-    then-xs-i w ↦ omega (arith, tally-yes (λ x. leb x v) xs i r (le-leb _ _ w.if-xs-i.true))
-    | else-xs-i w ↦ omega (arith, tally_no (λ x. leb x v) xs i r (lt-leb _ _ w.if-xs-i.false))
+      | then-xs-i w ↦ omega (arith, tally-yes (λ x. leb x v) xs i r (le-leb _ _ w.if-xs-i.true))
+      | else-xs-i w ↦ omega (arith, tally_no (λ x. leb x v) xs i r (lt-leb _ _ w.if-xs-i.false))
     ]
 
 pub returns : goal.returns

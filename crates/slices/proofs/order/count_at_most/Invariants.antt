@@ -1,8 +1,6 @@
 -- `slices::order::count_at_most` meets its contract. The loop's invariant: what is counted, and what is left to count, make the whole count. Assumes nothing.
-use Rattle.std.proofs.Common.{◌≡◌, ◌+◌, ◌-◌, ◌<◌, ◌≤◌, leb, length, drop, ⊎_elim, arith, rules, le-leb}
-use borrow.Author.Tests.{lt-leb}
+use Rattle.std.proofs.Common.{◌≡◌, ◌+◌, ◌-◌, ◌≤◌, length, drop}
 use Rattle.slices.specs.Sorted.{at_most}
-use Rattle.slices.proofs.Sorting.{tally-yes, tally_no, tally_end}
 use Rattle.slices.proofs.order.count_at_most.Given as goal
 
 abbrev pub invariant-loop-i : goal.invariant-loop-i

@@ -1,5 +1,5 @@
 -- `slices::order::gather` is safe and ends. The loop's invariant: at most as many are kept as there are places. Assumes nothing.
-use Rattle.std.proofs.Common.{◌≡◌, ◌+◌, ◌-◌, ◌≤◌, length, ap, ◌∙◌, ⊎_elim, arith, length-set, rules}
+use Rattle.std.proofs.Common.{◌≡◌, ◌+◌, ◌-◌, ◌≤◌, length}
 use Rattle.slices.proofs.order.gather.Given as goal
 
 abbrev pub invariant-loop-i : goal.invariant-loop-i

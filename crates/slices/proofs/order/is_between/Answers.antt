@@ -1,5 +1,5 @@
 -- `slices::order::is_between` meets its contract. Assumes nothing.
-use Rattle.std.proofs.Common.{arith, rules}
+use Rattle.std.proofs.Common.{arith}
 use Rattle.slices.proofs.Between.{one_test}
 use Rattle.slices.proofs.order.is_between.Goals as goal
 

@@ -1,6 +1,5 @@
 -- `slices::order::least_from` meets its contract. The loop's invariant: the least so far and of what is left. Assumes nothing.
-use Rattle.std.proofs.Common.{◌≡◌, ◌-◌, ◌^◌, ◌≤◌, min, length, drop, ◌∙◌, arith, rules}
-use Rattle.slices.specs.Least.{least_of}
+use Rattle.std.proofs.Common.{◌∙◌, arith}
 use Rattle.slices.proofs.Least.{least_turn, least_end}
 use Rattle.slices.proofs.order.least_from.Goals as goal
 

@@ -1,7 +1,6 @@
 -- `slices::order::least_from` meets its contract. The loop's invariant: the least so far and of what is left. Assumes nothing.
-use Rattle.std.proofs.Common.{◌≡◌, ◌-◌, ◌^◌, ◌≤◌, min, length, drop, ◌∙◌, arith, rules}
+use Rattle.std.proofs.Common.{◌≡◌, ◌-◌, ◌^◌, ◌≤◌, min, length, drop}
 use Rattle.slices.specs.Least.{least_of}
-use Rattle.slices.proofs.Least.{least_turn, least_end}
 use Rattle.slices.proofs.order.least_from.Given as goal
 
 abbrev pub invariant-loop-i : goal.invariant-loop-i

@@ -1,6 +1,5 @@
 -- `slices::order::least_of` meets its contract. The loop's invariant: the least of the four and of what is left is the least of all. Assumes nothing.
-use Rattle.std.proofs.Common.{◌≡◌, ◌-◌, ◌≤◌, min, length, drop, refl, ◌∙◌, arith, rules}
-use Rattle.slices.specs.Least.{least_of}
+use Rattle.std.proofs.Common.{refl, ◌∙◌, arith}
 use Rattle.slices.proofs.Least.{least_start, least_turns}
 use Rattle.slices.proofs.order.least_of.Goals as goal
 

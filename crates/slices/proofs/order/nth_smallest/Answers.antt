@@ -1,5 +1,5 @@
 -- `slices::order::nth_smallest` meets its contract: past the end of the sorted list stands 0. Assumes nothing.
-use Rattle.std.proofs.Common.{sym, arith, rules}
+use Rattle.std.proofs.Common.{sym, arith}
 use lib.ListN.{get_or-eq_default}
 use Rattle.slices.specs.Sorted.{sorted}
 use Rattle.slices.proofs.Sorting.{sorted-length}

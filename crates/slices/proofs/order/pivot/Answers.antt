@@ -1,5 +1,5 @@
 -- `slices::order::pivot` meets its contract. Assumes nothing.
-use Rattle.std.proofs.Common.{sym, length-take-le, rules}
+use Rattle.std.proofs.Common.{sym, length-take-le}
 use Rattle.slices.proofs.order.pivot.Goals as goal
 
 pub slice_bounds-beside-end : goal.slice_bounds-beside-end

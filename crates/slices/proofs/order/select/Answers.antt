@@ -1,6 +1,6 @@
 -- `slices::order::select` meets its contract. The loop's invariant is `Bracket` of `proofs/Bracket.antt`, the measure hi - lo. Assumes nothing.
-use Rattle.std.proofs.Common.{◌-◌, ◌∙◌, zero-le, le_antisymm, arith, rules}
-use Rattle.slices.proofs.Bracket.{Bracket, bracket, lower-half, upper-half, chosen, left, upto-fits}
+use Rattle.std.proofs.Common.{◌∙◌, zero-le, le_antisymm, arith}
+use Rattle.slices.proofs.Bracket.{bracket, lower-half, upper-half, chosen, left, upto-fits}
 use Rattle.slices.proofs.order.select.Goals as goal
 
 pub loop-lo-init : goal.loop-lo-init
@@ -9,18 +9,18 @@ loop-lo-init c =
 
 pub select_between-requires : goal.select_between-requires
 select_between-requires c = record {
-      lo_le_hi = omega arith;
-      xs_len_bound = omega (arith, left _ _ _ _ _ _ c.loop-lo.invariant (omega arith));
-    }
+  lo_le_hi = omega arith;
+  xs_len_bound = omega (arith, left _ _ _ _ _ _ c.loop-lo.invariant (omega arith));
+}
 
 pub returns-then-upto-under-le2048 : goal.returns-then-upto-under-le2048
 returns-then-upto-under-le2048 c = c.select_between.ensures ∙ chosen _ _ _ _ _ _ c.loop-lo.invariant (omega arith)
 
 pub pivot-mid-requires : goal.pivot-mid-requires
 pivot-mid-requires c = record {
-      lo_lt_hi = omega arith;
-      lt_s = (omega arith, omega (arith, upto-fits _ _ _ _ _ _ c.loop-lo.invariant));
-    }
+  lo_lt_hi = omega arith;
+  lt_s = (omega arith, omega (arith, upto-fits _ _ _ _ _ _ c.loop-lo.invariant));
+}
 
 pub loop-lo-preserved-then-k-n : goal.loop-lo-preserved-then-k-n
 loop-lo-preserved-then-k-n c =

@@ -1,6 +1,6 @@
 -- `slices::order::select` meets its contract. The loop's invariant is `Bracket` of `proofs/Bracket.antt`, the measure hi - lo. Assumes nothing.
-use Rattle.std.proofs.Common.{◌-◌, ◌∙◌, zero-le, le_antisymm, arith, rules}
-use Rattle.slices.proofs.Bracket.{Bracket, bracket, lower-half, upper-half, chosen, left, upto-fits}
+use Rattle.std.proofs.Common.{◌-◌}
+use Rattle.slices.proofs.Bracket.{Bracket}
 use Rattle.slices.proofs.order.select.Given as goal
 
 abbrev pub invariant-loop-lo : goal.invariant-loop-lo

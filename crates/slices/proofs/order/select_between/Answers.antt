@@ -1,5 +1,5 @@
 -- `slices::order::select_between` meets its contract. Assumes nothing.
-use Rattle.std.proofs.Common.{length, get_or, sym, ap, ◌∙◌, rules}
+use Rattle.std.proofs.Common.{length, get_or, sym, ap, ◌∙◌}
 use Rattle.slices.specs.Sorted.{sorted}
 use Rattle.slices.proofs.order.select_between.Goals as goal
 

@@ -1,5 +1,5 @@
 -- `slices::order::select_copy` meets its contract. Assumes nothing.
-use Rattle.std.proofs.Common.{◌≡◌, length, get_or, take, sym, ap, ◌∙◌}
+use Rattle.std.proofs.Common.{length, get_or, take, sym, ap, ◌∙◌}
 use Rattle.slices.specs.Sorted.{sorted}
 use Rattle.slices.proofs.Runs.{front-copied}
 use Rattle.slices.proofs.order.select_copy.Goals as goal
