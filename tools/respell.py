@@ -24,7 +24,7 @@ HEX = re.compile(r"^x[0-9A-F_]+$|^0x")
 
 def files(top, endings):
     for folder, dirs, names in os.walk(top):
-        dirs[:] = sorted(d for d in dirs if d not in ("out", "target", ".git"))
+        dirs[:] = sorted(d for d in dirs if d not in ("out", ".git"))
         for name in sorted(names):
             if name.endswith(endings):
                 yield os.path.join(folder, name)

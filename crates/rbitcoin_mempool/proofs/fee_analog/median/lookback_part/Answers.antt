@@ -1,0 +1,8 @@
+-- `fee_analog::median::lookback_part` meets its contract. Assumes nothing.
+use Rattle.std.proofs.Common.{arith, rules}
+use Rattle.rbitcoin_mempool.proofs.Medians.{lookback-is}
+use Rattle.rbitcoin_mempool.proofs.fee_analog.median.lookback_part.Goals as goal
+
+pub returns : goal.returns
+returns c =
+    lookback-is c.args.hurdles.now c.args.t c.args.n _ _ c.smaller-end.ensures (omega (arith, c.smaller.ensures))

@@ -1,0 +1,56 @@
+-- `fee_analog::scan::tracks` meets its contract. The loop's invariant: whether a target before d is of n blocks. Assumes nothing.
+use Rattle.std.proofs.Common.{◌≡◌, ℕ, ◌+◌, ◌-◌, ◌<◌, ◌≤◌, Bool, true, false, eqb, ltb, sym, refl, ap, ◌∙◌, ⊎_elim, arith, rules, below_more, ltb-false, ltb-true, le-ltb, lt-ltb, eq-eqb, ne_eqb}
+use Rattle.slices.specs.Search.{seek}
+use Rattle.slices.proofs.Search.{seek_is, sought}
+use Rattle.rbitcoin_mempool.specs.Pairs.{ahead_of}
+use Rattle.rbitcoin_mempool.specs.Windows.{target_at, find_target}
+use Rattle.rbitcoin_mempool.proofs.fee_analog.scan.tracks.Goals as goal
+
+abbrev any : (ℕ → Bool) → ℕ → Bool
+any p d = ltb (seek p 0 d) d
+
+module _ (p : ℕ → Bool) (d : ℕ) where
+  hit : p d ≡ true → true ≡ any p (d + 1)
+  hit h =
+      let s = sought p 0 (d + 1) in
+      let go : (b : Bool) → any p (d + 1) ≡ b → true ≡ b = λ b. elim b [
+        | true ↦ λ e. refl
+        | false ↦ λ e. sym h ∙ s.before d (omega arith) (omega (arith, ltb-false (seek p 0 (d + 1)) (d + 1) e))
+      ] in
+      go (any p (d + 1)) refl
+
+  miss : p d ≡ false → any p d ≡ any p (d + 1)
+  miss h = go (any p d) refl
+    where
+      go : (b : Bool) → any p d ≡ b → any p d ≡ any p (d + 1)
+      go true e =
+          let s = sought p 0 d in
+          let l : seek p 0 d < d = ltb-true _ _ e in
+          let q : seek p 0 d ≡ seek p 0 (d + 1) = seek_is p 0 (d + 1) (seek p 0 d) (omega arith) (omega arith) s.before (λ r. s.here (omega arith)) in
+          e ∙ sym (lt-ltb (seek p 0 (d + 1)) (d + 1) (omega arith))
+      go false e =
+          let s = sought p 0 d in
+          let l : d ≤ seek p 0 d = ltb-false _ _ e in
+          let q : d + 1 ≡ seek p 0 (d + 1) = seek_is p 0 (d + 1) (d + 1) (omega arith) (omega arith) (λ k a b. below_more (λ (i : ℕ). p i ≡ false) d (λ i r. s.before i (omega arith) (omega arith)) h k b) (λ r. absurd (let f : ⊥ = omega arith in f)) in
+          e ∙ sym (le-ltb (seek p 0 (d + 1)) (d + 1) (omega arith))
+
+pub loop-d-init : goal.loop-d-init
+unfolding seek
+loop-d-init c = (omega arith, refl)
+
+pub loop-d-preserved : goal.loop-d-preserved
+loop-d-preserved c =
+    let e = c.analog_ahead.ensures.0 in
+    let h = c.analog_ahead-ahead.ensures.0 in (
+      omega arith,
+      ⊎_elim
+          (λ w. rw w.1 (hit _ _ (eq-eqb _ _ (sym e ∙ w.0.taken ∙ h))))
+          (λ w. rw w.1 (c.loop-d.invariant.1 ∙ miss _ _ (ne_eqb _ _ (λ q. w.0.left (e ∙ q ∙ sym h)))))
+          c.if-analog_ahead-ahead.branch,
+    )
+
+pub returns : goal.returns
+unfolding find_target
+returns c =
+    let e : c.loop-d.d ≡ c.args.s.tracked = omega arith in
+    c.loop-d.invariant.1 ∙ ap (any _) e

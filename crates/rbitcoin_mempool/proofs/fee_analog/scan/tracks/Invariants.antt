@@ -1,0 +1,16 @@
+-- `fee_analog::scan::tracks` meets its contract. The loop's invariant: whether a target before d is of n blocks. Assumes nothing.
+use Rattle.std.proofs.Common.{◌≡◌, ℕ, ◌+◌, ◌-◌, ◌<◌, ◌≤◌, Bool, true, false, eqb, ltb, sym, refl, ap, ◌∙◌, ⊎_elim, arith, rules, below_more, ltb-false, ltb-true, le-ltb, lt-ltb, eq-eqb, ne_eqb}
+use Rattle.slices.specs.Search.{seek}
+use Rattle.slices.proofs.Search.{seek_is, sought}
+use Rattle.rbitcoin_mempool.specs.Pairs.{ahead_of}
+use Rattle.rbitcoin_mempool.specs.Windows.{target_at, find_target}
+use Rattle.rbitcoin_mempool.proofs.fee_analog.scan.tracks.Given as goal
+
+abbrev any : (ℕ → Bool) → ℕ → Bool
+any p d = ltb (seek p 0 d) d
+
+abbrev pub invariant-loop-d : goal.invariant-loop-d
+invariant-loop-d l = (l.d ≤ l.s.tracked) × (l.found ≡ any (λ k. eqb (ahead_of (target_at l.s k)) (ahead_of l.n)) l.d)
+
+abbrev pub decreases-loop-d : goal.decreases-loop-d
+decreases-loop-d l = l.s.tracked - l.d
