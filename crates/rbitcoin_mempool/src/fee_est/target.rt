@@ -109,7 +109,7 @@ fn first_at(depths: &[u32], target: u32) -> usize
 fn between_at(depths: &[u32], numbers: &[u64], marks: &[u8], target: u32, i: usize) -> Rate
     requires i_nonzero { (0 < i) × (i < length depths.now) }
     requires numbers_len { (length numbers.now ≡ length depths.now) × (length marks.now ≡ length depths.now) }
-    ensures* { λ r. ⌜ given r ≡ between (λ l r. lerp_sat_kvb (slice_index depths.now (i - 1)) l (slice_index depths.now i) r target) (last_there (take i (rates_of numbers.now marks.now))) (slice_index_or (rates_of numbers.now marks.now) (i - 1) none) (slice_index_or (rates_of numbers.now marks.now) i none) ⌝ }
+    ensures { given result ≡ between (λ l r. lerp_sat_kvb (slice_index depths.now (i - 1)) l (slice_index depths.now i) r target) (last_there (take i (rates_of numbers.now marks.now))) (slice_index_or (rates_of numbers.now marks.now) (i - 1) none) (slice_index_or (rates_of numbers.now marks.now) i none) }
 {
     let before = i - 1;
     match rate_at(numbers, marks, before) {
@@ -125,7 +125,7 @@ fn between_at(depths: &[u32], numbers: &[u64], marks: &[u8], target: u32, i: usi
 fn at_index(depths: &[u32], numbers: &[u64], marks: &[u8], target: u32, i: usize) -> Rate
     requires i_in_bounds { i < length depths.now }
     requires numbers_len { (length numbers.now ≡ length depths.now) × (length marks.now ≡ length depths.now) }
-    ensures* { λ r. ⌜ given r ≡ at_index (λ d0 l d1 r. lerp_sat_kvb d0 l d1 r target) depths.now (rates_of numbers.now marks.now) target i ⌝ }
+    ensures { given result ≡ at_index (λ d0 l d1 r. lerp_sat_kvb d0 l d1 r target) depths.now (rates_of numbers.now marks.now) target i }
 {
     if depths[i] == target {
         return rate_at(numbers, marks, i);

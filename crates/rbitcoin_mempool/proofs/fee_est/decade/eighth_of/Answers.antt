@@ -17,7 +17,7 @@ overflow_sub-result-2 c =
 pub overflow_add-result : goal.overflow_add-result
 overflow_add-result c =
     let lead : Leads c.args.y (count_leading_zeros 64 c.args.y) = leads c.args.y c.requires.0 c.requires.1 in
-    omega (arith, lead.eighth.new)
+    omega (arith, lead.eighth.last)
 
 pub returns : goal.returns
 returns c =

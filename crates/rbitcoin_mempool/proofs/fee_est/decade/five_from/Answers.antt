@@ -111,4 +111,4 @@ returns-in-40 c = row_holds c.args.eighth 40 93 8511380 8709635 8912509 9120108 
 
 pub returns-in_default : goal.returns-in_default
 unfolding row_test low_test high_test fine_edge series
-returns-in_default c = row_holds c.args.eighth 41 95 8912509 9120108 9332543 9549925 9772372 (le_antisymm c.requires.1 (beyond c.args.eighth 15 26 c.requires.0 c.in_default.rest)) refl
+returns-in_default c = row_holds c.args.eighth 41 95 8912509 9120108 9332543 9549925 9772372 (omega arith) refl

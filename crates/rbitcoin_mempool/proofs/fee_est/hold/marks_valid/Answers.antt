@@ -1,10 +1,11 @@
 -- `fee_est::hold::marks_valid` meets its contract. The loop keeps whether each mark so far is 0 or 1. Assumes nothing.
-use Rattle.std.proofs.Common.{◌≡◌, ℕ, ◌-◌, ◌≤◌, Bool, leb, length, get_or, refl, ap, ◌∙◌, ⊎_elim, arith, rules, le-leb}
+use Rattle.std.proofs.Common.{◌≡◌, ℕ, ◌-◌, ◌≤◌, Bool, leb, length, get_or, refl, ap, ◌∙◌, arith, rules, le-leb}
 use borrow.Author.Tests.{lt-leb}
 use Rattle.slices.specs.Every.{every}
 use Rattle.rbitcoin_mempool.proofs.Passes.{flag-kept, flag_cleared}
 use Rattle.rbitcoin_mempool.specs.Rates.{marks_valid}
 use Rattle.rbitcoin_mempool.proofs.fee_est.hold.marks_valid.Goals as goal
+use Rattle.rbitcoin_mempool.proofs.fee_est.hold.marks_valid.Goals.{then-marks-i-gt1, else-marks-i-gt1}
 
 pub loop-i-init : goal.loop-i-init
 unfolding every
@@ -15,9 +16,10 @@ loop-i-preserved c =
     let ms = c.args.marks.now in
     let test : ℕ → Bool = λ k. leb (get_or ms k 0) 1 in (
       omega arith,
-      ⊎_elim (λ w. w.1 ∙ flag_cleared test c.loop-i.i (lt-leb _ _ w.0.taken))
-          (λ w. w.1 ∙ flag-kept test c.loop-i.i c.loop-i.valid c.loop-i.invariant.1 (le-leb _ _ w.0.left))
-          c.if-marks-i-gt1.branch,
+      elim c.if-marks-i-gt1.branch [
+        then-marks-i-gt1 w ↦ w.valid-is ∙ flag_cleared test c.loop-i.i (lt-leb _ _ w.if-marks-i-gt1.true)
+        | else-marks-i-gt1 w ↦ w.valid-is ∙ flag-kept test c.loop-i.i c.loop-i.valid c.loop-i.invariant.1 (le-leb _ _ w.if-marks-i-gt1.false)
+      ],
     )
 
 pub returns : goal.returns

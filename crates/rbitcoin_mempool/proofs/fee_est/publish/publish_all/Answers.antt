@@ -11,8 +11,8 @@ loop-i-init c =
 
 pub loop-i-preserved : goal.loop-i-preserved
 loop-i-preserved c =
-    write_step (published_at (args_of c.args.depths.now c.args.projected.now c.args.projected_marks.now c.args.frontier.now c.args.frontier_marks.now c.args.history.now c.args.history_marks.now (given c.args.confirm) c.args.alpha)) (length c.args.depths.now) c.loop-i.out c.loop-i.out_marks c.loop-i.i c.number_of_lem.result c.mark_of.result (omega arith) c.loop-i.invariant
-    (c.number_of_lem.ensures ∙ ap number_of c.publish_at-rate.ensures) (c.mark_of.ensures ∙ ap mark_of c.publish_at-rate.ensures)
+    write_step (published_at (args_of c.args.depths.now c.args.projected.now c.args.projected_marks.now c.args.frontier.now c.args.frontier_marks.now c.args.history.now c.args.history_marks.now (given c.args.confirm) c.args.alpha)) (length c.args.depths.now) c.loop-i.out c.loop-i.out_marks c.loop-i.i c.number_of.result c.mark_of.result (omega arith) c.loop-i.invariant
+    (c.number_of.ensures ∙ ap number_of c.publish_at-rate.ensures) (c.mark_of.ensures ∙ ap mark_of c.publish_at-rate.ensures)
 
 pub returns : goal.returns
 returns c =
