@@ -1,6 +1,6 @@
 /* Juleyomu: fee rates to confirm within N blocks, for a program in C11 or C++.
  *
- * `rt staticlib exports`, at the root of the repository, writes target/staticlib/libexports.a (x86-64
+ * `tools/library`, at the root of the repository, writes target/staticlib/libexports.a (x86-64
  * Linux), which has these functions and no others:
  *
  *     cc -std=c11 -I include program.c target/staticlib/libexports.a

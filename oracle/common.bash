@@ -23,7 +23,7 @@ build_library() {
     for tool in rt cargo; do
         command -v "$tool" >/dev/null || fail "$tool is not installed, or not on the PATH"
     done
-    (cd "$root" && rt staticlib exports) >&2 || fail "the static library was not built"
+    "$root/tools/library" || fail "the static library was not built"
 }
 
 # The library, then the Rust programs that link it.

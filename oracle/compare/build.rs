@@ -8,7 +8,7 @@ fn main() {
     println!("cargo::rerun-if-changed={}", library.display());
     if !library.exists() {
         println!(
-            "cargo::error=target/staticlib/libexports.a is missing: run `rt staticlib exports` at \
+            "cargo::error=target/staticlib/libexports.a is missing: run `tools/library` at \
              the root of the repository, or use oracle/run"
         );
         return;
