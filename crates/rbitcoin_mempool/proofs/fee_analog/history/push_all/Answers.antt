@@ -13,9 +13,9 @@ loop-i-preserved c =
     let w = windows c.loop-i.t c.loop-i.hurdles c.loop-i.befores c.loop-i.aheads in (
       omega arith,
       (
-        c.push_back-r.auto.aheads ∙ c.loop-i.invariant.1.0,
+        c.push_back-r.auto.hurdles ∙ c.loop-i.invariant.1.0,
         (
-          c.push_back-r.auto.aheads ∙ c.loop-i.invariant.1.1.0,
+          c.push_back-r.auto.befores ∙ c.loop-i.invariant.1.1.0,
           (c.push_back-r.auto.aheads ∙ c.loop-i.invariant.1.1.1.0, all_turn c.args.from.now c.loop-i.i w _ _ h c.push_back-r.ensures.aheads_after c.loop-i.invariant.1.1.1.1),
         ),
       ),

@@ -29,7 +29,7 @@ loop-d-preserved c =
     let h : c.loop-d.d < c.args.s.tracked = c.loop-d-test.true in (
       omega arith,
       (
-        c.put_pair.auto.aheads ∙ c.loop-d.invariant.1.0,
+        c.put_pair.auto.befores ∙ c.loop-d.invariant.1.0,
         (
           c.put_pair.auto.aheads ∙ c.loop-d.invariant.1.1.0,
           (

@@ -6,6 +6,7 @@ use Rattle.rbitcoin_mempool.specs.Pairs.{ahead_of}
 use Rattle.rbitcoin_mempool.specs.Windows.{target_at, find_target}
 use Rattle.rbitcoin_mempool.proofs.fee_analog.scan.tracks.Given as goal
 
+-- whether one of the first d places passes
 abbrev any : (ℕ → Bool) → ℕ → Bool
 any p d = ltb (seek p 0 d) d
 
