@@ -1,5 +1,5 @@
 -- `fee_analog::scan::scan` meets its contract. Assumes nothing.
-use Rattle.std.proofs.Common.{◌≡◌, ◌+◌, ◌-◌, ◌*◌, List, length, take, drop, sym, refl, ap, ◌∙◌, ap₂, arith, rules}
+use Rattle.std.proofs.Common.{◌≡◌, ◌+◌, ◌-◌, ◌*◌, List, length, take, drop, sym, refl, ap, ◌∙◌, ap₂, arith}
 use lib.Ieee.{Float}
 use Rattle.rbitcoin_mempool.specs.Median.{analog_lookback, ln_rate, lookback_part, median_of}
 use Rattle.rbitcoin_mempool.specs.Pairs.{Pair, windows_in}

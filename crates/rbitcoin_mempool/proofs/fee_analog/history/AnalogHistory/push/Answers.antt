@@ -1,5 +1,5 @@
 -- `fee_analog::history::AnalogHistory::push` meets its contract. Assumes nothing.
-use Rattle.std.proofs.Common.{◌≡◌, ℕ, ◌<◌, Bool, set, sym, ap, ◌∙◌, subst, arith}
+use Rattle.std.proofs.Common.{◌≡◌, ◌<◌, Bool, sym, ap, ◌∙◌, subst, arith}
 use Rattle.rbitcoin_mempool.specs.Outcome.{verdict_of}
 use Rattle.rbitcoin_mempool.specs.Windows.{Windows, push_refusal_of, room_of, windows, with_pairs}
 use Rattle.rbitcoin_mempool.proofs.Pushes.{OpenAt, ValidIn, first_of, pairs-put, place-within, place_of, push-done, push-refused, room_open, store_valid, store_of, stored_at}

@@ -1,5 +1,5 @@
 -- `fee_analog::history::AnalogHistory::rate_sat_kvb` meets its contract. Assumes nothing.
-use Rattle.std.proofs.Common.{ℕ, ◌<◌, sym, refl, ap, ◌∙◌, arith, rules}
+use Rattle.std.proofs.Common.{ℕ, ◌<◌, sym, refl, ap, ◌∙◌, arith}
 use borrow.Author.Tests.{not-true, not-false}
 use Rattle.rbitcoin_mempool.specs.Answer.{rate}
 use Rattle.rbitcoin_mempool.specs.Nearest.{neighbors}
