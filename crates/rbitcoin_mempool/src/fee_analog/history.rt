@@ -261,7 +261,7 @@ impl AnalogHistory {
         CountAnswer::Count(0)
     }
 
-    // The quantile at `confidence`, in logarithms, of the hurdles (sat/kv_b) of the windows that looked like now. None before
+    // The quantile at `confidence`, in logarithms, of the hurdles (sat/kvB) of the windows that looked like now. None before
     // the target holds `ANALOG_READY_PAIRS` pairs. A scan that answers with a rate leaves `scratch` open.
     pub fn rate_sat_kvb(
         self,

@@ -1,6 +1,6 @@
 -- `fee_analog::history::padded` meets its contract. The loop's invariant is `Padding` of proofs/Padding.antt. Assumes nothing.
-use Rattle.std.proofs.Common.{◌-◌, ◌<◌, ⊎_elim, arith, rules}
-use Rattle.rbitcoin_mempool.proofs.Padding.{Padding, pad-start, pad-next, pad-past, pad_end}
+use Rattle.std.proofs.Common.{◌-◌}
+use Rattle.rbitcoin_mempool.proofs.Padding.{Padding}
 use Rattle.rbitcoin_mempool.proofs.fee_analog.history.padded.Given as goal
 
 abbrev pub invariant-loop-i : goal.invariant-loop-i

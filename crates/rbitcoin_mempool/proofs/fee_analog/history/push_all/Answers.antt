@@ -1,6 +1,6 @@
 -- `fee_analog::history::push_all` meets its contract. The loop's invariant: what is to come, pushed onto what there is, is all pushed onto what there was. Assumes nothing.
-use Rattle.std.proofs.Common.{◌≡◌, ◌-◌, ◌<◌, ◌≤◌, length, drop, refl, ◌∙◌, arith, rules}
-use Rattle.rbitcoin_mempool.specs.Windows.{push_all, windows}
+use Rattle.std.proofs.Common.{◌<◌, length, refl, ◌∙◌, arith}
+use Rattle.rbitcoin_mempool.specs.Windows.{windows}
 use Rattle.rbitcoin_mempool.proofs.Rebuilds.{all_done, all_turn}
 use Rattle.rbitcoin_mempool.proofs.fee_analog.history.push_all.Goals as goal
 
@@ -13,9 +13,9 @@ loop-i-preserved c =
     let w = windows c.loop-i.t c.loop-i.hurdles c.loop-i.befores c.loop-i.aheads in (
       omega arith,
       (
-        c.push_back-r.auto.aheads ∙ c.loop-i.invariant.1.0,
+        c.push_back-r.auto.hurdles ∙ c.loop-i.invariant.1.0,
         (
-          c.push_back-r.auto.aheads ∙ c.loop-i.invariant.1.1.0,
+          c.push_back-r.auto.befores ∙ c.loop-i.invariant.1.1.0,
           (c.push_back-r.auto.aheads ∙ c.loop-i.invariant.1.1.1.0, all_turn c.args.from.now c.loop-i.i w _ _ h c.push_back-r.ensures.aheads_after c.loop-i.invariant.1.1.1.1),
         ),
       ),

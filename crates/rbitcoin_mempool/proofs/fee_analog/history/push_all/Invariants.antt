@@ -1,7 +1,6 @@
 -- `fee_analog::history::push_all` meets its contract. The loop's invariant: what is to come, pushed onto what there is, is all pushed onto what there was. Assumes nothing.
-use Rattle.std.proofs.Common.{◌≡◌, ◌-◌, ◌<◌, ◌≤◌, length, drop, refl, ◌∙◌, arith, rules}
+use Rattle.std.proofs.Common.{◌≡◌, ◌-◌, ◌≤◌, length, drop}
 use Rattle.rbitcoin_mempool.specs.Windows.{push_all, windows}
-use Rattle.rbitcoin_mempool.proofs.Rebuilds.{all_done, all_turn}
 use Rattle.rbitcoin_mempool.proofs.fee_analog.history.push_all.Given as goal
 
 abbrev pub invariant-loop-i : goal.invariant-loop-i

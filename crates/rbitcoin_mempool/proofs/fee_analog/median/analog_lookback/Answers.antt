@@ -1,5 +1,5 @@
 -- `fee_analog::median::analog_lookback` meets its contract. Assumes nothing.
-use Rattle.std.proofs.Common.{arith, rules}
+use Rattle.std.proofs.Common.{arith}
 use Rattle.rbitcoin_mempool.specs.Median.{analog_lookback}
 use Rattle.rbitcoin_mempool.proofs.fee_analog.median.analog_lookback.Goals as goal
 

@@ -1,5 +1,5 @@
 -- `fee_analog::median::ln_rate` meets its contract. Assumes nothing.
-use Rattle.std.proofs.Common.{ap, ◌∙◌, rules}
+use Rattle.std.proofs.Common.{ap, ◌∙◌}
 use Rattle.num.specs.Float.{of_u64}
 use Rattle.num.specs.Ln.{ln_of}
 use Rattle.rbitcoin_mempool.specs.Median.{ln_rate}

@@ -1,5 +1,5 @@
 -- `fee_analog::median::lookback_part` meets its contract. Assumes nothing.
-use Rattle.std.proofs.Common.{arith, rules}
+use Rattle.std.proofs.Common.{arith}
 use Rattle.rbitcoin_mempool.proofs.Medians.{lookback-is}
 use Rattle.rbitcoin_mempool.proofs.fee_analog.median.lookback_part.Goals as goal
 

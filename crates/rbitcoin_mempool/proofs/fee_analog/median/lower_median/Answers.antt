@@ -1,5 +1,5 @@
 -- `fee_analog::median::lower_median` meets its contract. Assumes nothing.
-use Rattle.std.proofs.Common.{ap, ◌∙◌, rules}
+use Rattle.std.proofs.Common.{ap, ◌∙◌}
 use Rattle.rbitcoin_mempool.specs.Answer.{rate}
 use Rattle.rbitcoin_mempool.proofs.Medians.{median-none, median-some}
 use Rattle.rbitcoin_mempool.proofs.fee_analog.median.lower_median.Goals as goal

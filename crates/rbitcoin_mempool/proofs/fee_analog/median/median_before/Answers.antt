@@ -1,5 +1,5 @@
 -- `fee_analog::median::median_before` meets its contract. Assumes nothing.
-use Rattle.std.proofs.Common.{sym, ap, ◌∙◌, rules}
+use Rattle.std.proofs.Common.{sym, ap, ◌∙◌}
 use Rattle.rbitcoin_mempool.specs.Answer.{answer}
 use Rattle.rbitcoin_mempool.specs.Median.{lower_median}
 use Rattle.rbitcoin_mempool.proofs.Medians.{median-found}

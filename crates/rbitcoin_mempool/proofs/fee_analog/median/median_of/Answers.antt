@@ -1,5 +1,5 @@
 -- `fee_analog::median::median_of` meets its contract. Assumes nothing.
-use Rattle.std.proofs.Common.{get_or, ap, ◌∙◌, rules}
+use Rattle.std.proofs.Common.{get_or, ap, ◌∙◌}
 use Rattle.slices.specs.Sorted.{sorted}
 use Rattle.rbitcoin_mempool.specs.Median.{median_of}
 use Rattle.rbitcoin_mempool.proofs.Medians.{median-three}

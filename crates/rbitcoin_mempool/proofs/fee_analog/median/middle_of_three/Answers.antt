@@ -1,5 +1,5 @@
 -- `fee_analog::median::middle_of_three` meets its contract. Assumes nothing.
-use Rattle.std.proofs.Common.{arith, rules}
+use Rattle.std.proofs.Common.{arith}
 use Rattle.rbitcoin_mempool.proofs.Medians.{three}
 use Rattle.rbitcoin_mempool.proofs.fee_analog.median.middle_of_three.Goals as goal
 

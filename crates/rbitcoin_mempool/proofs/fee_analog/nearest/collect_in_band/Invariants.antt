@@ -1,7 +1,6 @@
 -- `fee_analog::nearest::collect_in_band` meets its contract. The loop's invariant is `Gathering` of proofs/Neighbors.antt. Assumes nothing.
-use Rattle.std.proofs.Common.{◌-◌, ◌<◌, length, sym, ◌∙◌, ⊎_elim, arith, rules}
-use Rattle.rbitcoin_mempool.specs.Nearest.{band}
-use Rattle.rbitcoin_mempool.proofs.Neighbors.{Gathering, gather-start, gather_in, gather-past, gather_end, gather-count, within-band}
+use Rattle.std.proofs.Common.{◌-◌, length}
+use Rattle.rbitcoin_mempool.proofs.Neighbors.{Gathering}
 use Rattle.rbitcoin_mempool.proofs.fee_analog.nearest.collect_in_band.Given as goal
 
 abbrev pub invariant-loop-i : goal.invariant-loop-i

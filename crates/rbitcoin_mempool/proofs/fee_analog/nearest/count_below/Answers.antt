@@ -1,5 +1,5 @@
 -- `fee_analog::nearest::count_below` meets its contract. Assumes nothing.
-use Rattle.std.proofs.Common.{◌≡◌, suc, ◌-◌, sym, ap, ◌∙◌, arith, rules}
+use Rattle.std.proofs.Common.{◌≡◌, suc, ◌-◌, sym, ap, ◌∙◌, arith}
 use Rattle.slices.specs.Sorted.{below}
 use Rattle.slices.proofs.Tallies.{none_below, below_suc}
 use Rattle.rbitcoin_mempool.proofs.fee_analog.nearest.count_below.Goals as goal

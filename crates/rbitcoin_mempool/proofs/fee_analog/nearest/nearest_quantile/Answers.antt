@@ -1,5 +1,5 @@
 -- `fee_analog::nearest::nearest_quantile` meets its contract. Assumes nothing.
-use Rattle.std.proofs.Common.{◌≡◌, ℕ, ◌-◌, List, length, take, replicate, sym, ap, ◌∙◌, arith, length-take-le, take_all, rules}
+use Rattle.std.proofs.Common.{◌≡◌, ℕ, ◌-◌, List, length, take, replicate, sym, ap, ◌∙◌, arith, length-take-le, take_all}
 use Rattle.rbitcoin_mempool.specs.Nearest.{Cut, distances, nearest}
 use Rattle.rbitcoin_mempool.specs.Quantile.{quantile_of}
 use Rattle.rbitcoin_mempool.proofs.Neighbors.{front_of, nearest-paired}

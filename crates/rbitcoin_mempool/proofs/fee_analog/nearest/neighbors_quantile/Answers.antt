@@ -1,5 +1,5 @@
 -- `fee_analog::nearest::neighbors_quantile` meets its contract. Assumes nothing.
-use Rattle.std.proofs.Common.{length, sym, ap, ◌∙◌, arith, length-take, rules}
+use Rattle.std.proofs.Common.{length, sym, ap, ◌∙◌, arith, length-take}
 use Rattle.rbitcoin_mempool.specs.Quantile.{quantile_of}
 use Rattle.rbitcoin_mempool.proofs.Neighbors.{few, enough}
 use Rattle.rbitcoin_mempool.proofs.fee_analog.nearest.neighbors_quantile.Goals as goal

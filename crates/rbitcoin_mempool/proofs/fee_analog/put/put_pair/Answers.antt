@@ -1,5 +1,5 @@
 -- `fee_analog::put::put_pair` meets its contract. Assumes nothing.
-use Rattle.std.proofs.Common.{◌≡◌, ◌+◌, ◌<◌, ◌≤◌, length, ap, ◌∙◌, arith, rules}
+use Rattle.std.proofs.Common.{◌≡◌, ◌+◌, ◌<◌, ◌≤◌, length, ap, ◌∙◌, arith}
 use Rattle.slices.specs.Least.{least_of}
 use Rattle.rbitcoin_mempool.specs.Median.{analog_lookback, ln_rate}
 use Rattle.rbitcoin_mempool.specs.Pairs.{ahead_at, ahead_of, before_at}

@@ -1,7 +1,5 @@
 -- `fee_analog::put::put_pairs` meets its contract. The loop's invariant: the first d targets have their pair. Assumes nothing.
-use Rattle.std.proofs.Common.{◌≡◌, ◌-◌, ◌<◌, ◌≤◌, length, refl, ◌∙◌, arith, rules}
-use Rattle.rbitcoin_mempool.specs.Pairs.{ahead_at, before_at}
-use Rattle.rbitcoin_mempool.specs.Windows.{each_target, held, put}
+use Rattle.std.proofs.Common.{◌≡◌, ◌<◌, refl, ◌∙◌, arith, rules}
 use Rattle.rbitcoin_mempool.proofs.Regions.{each_more, each_none}
 use Rattle.rbitcoin_mempool.proofs.Values.{valid_same}
 use Rattle.rbitcoin_mempool.proofs.fee_analog.put.put_pairs.Goals as goal
@@ -29,7 +27,7 @@ loop-d-preserved c =
     let h : c.loop-d.d < c.args.s.tracked = c.loop-d-test.true in (
       omega arith,
       (
-        c.put_pair.auto.aheads ∙ c.loop-d.invariant.1.0,
+        c.put_pair.auto.befores ∙ c.loop-d.invariant.1.0,
         (
           c.put_pair.auto.aheads ∙ c.loop-d.invariant.1.1.0,
           (

@@ -1,9 +1,7 @@
 -- `fee_analog::put::put_pairs` meets its contract. The loop's invariant: the first d targets have their pair. Assumes nothing.
-use Rattle.std.proofs.Common.{◌≡◌, ◌-◌, ◌<◌, ◌≤◌, length, refl, ◌∙◌, arith, rules}
+use Rattle.std.proofs.Common.{◌≡◌, ◌-◌, ◌≤◌, length}
 use Rattle.rbitcoin_mempool.specs.Pairs.{ahead_at, before_at}
 use Rattle.rbitcoin_mempool.specs.Windows.{each_target, held, put}
-use Rattle.rbitcoin_mempool.proofs.Regions.{each_more, each_none}
-use Rattle.rbitcoin_mempool.proofs.Values.{valid_same}
 use Rattle.rbitcoin_mempool.proofs.fee_analog.put.put_pairs.Given as goal
 
 abbrev pub invariant-loop-d : goal.invariant-loop-d

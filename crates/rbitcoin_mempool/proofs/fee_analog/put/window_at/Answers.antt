@@ -1,5 +1,4 @@
 -- `fee_analog::put::window_at` meets its contract. Assumes nothing.
-use Rattle.std.proofs.Common.{rules}
 use Rattle.rbitcoin_mempool.proofs.fee_analog.put.window_at.Goals as goal
 
 pub returns-then-newest : goal.returns-then-newest

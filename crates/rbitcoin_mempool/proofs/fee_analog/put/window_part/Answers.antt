@@ -1,5 +1,5 @@
 -- `fee_analog::put::window_part` meets its contract. Assumes nothing.
-use Rattle.std.proofs.Common.{◌≡◌, ◌+◌, ◌-◌, arith, rules}
+use Rattle.std.proofs.Common.{◌≡◌, ◌+◌, ◌-◌, arith}
 use Rattle.rbitcoin_mempool.proofs.fee_analog.put.window_part.Goals as goal
 
 pub returns : goal.returns

@@ -1,5 +1,5 @@
 -- `fee_analog::quantile::between_neighbors` meets its contract. Assumes nothing.
-use Rattle.std.proofs.Common.{sym, ap, ◌∙◌, rules, eq-eqb, ne_eqb}
+use Rattle.std.proofs.Common.{sym, ap, ◌∙◌, eq-eqb, ne_eqb}
 use lib.Ieee.{binary64, sub}
 use Rattle.rbitcoin_mempool.specs.Quantile.{blend_of, between_neighbors}
 use Rattle.rbitcoin_mempool.proofs.fee_analog.quantile.between_neighbors.Goals as goal

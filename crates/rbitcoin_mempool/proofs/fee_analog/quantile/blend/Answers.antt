@@ -1,5 +1,4 @@
 -- `fee_analog::quantile::blend` meets its contract. Assumes nothing.
-use Rattle.std.proofs.Common.{rules}
 use Rattle.rbitcoin_mempool.specs.Quantile.{blend_of}
 use Rattle.rbitcoin_mempool.proofs.fee_analog.quantile.blend.Goals as goal
 

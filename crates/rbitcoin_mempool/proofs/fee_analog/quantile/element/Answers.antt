@@ -1,5 +1,5 @@
 -- `fee_analog::quantile::element` meets its contract. Assumes nothing.
-use Rattle.std.proofs.Common.{sym, arith, rules}
+use Rattle.std.proofs.Common.{sym, arith}
 use lib.ListN.{get_or-eq_default}
 use Rattle.rbitcoin_mempool.proofs.fee_analog.quantile.element.Goals as goal
 

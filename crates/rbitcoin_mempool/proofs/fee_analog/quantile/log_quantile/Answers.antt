@@ -1,5 +1,5 @@
 -- `fee_analog::quantile::log_quantile` meets its contract. Assumes nothing.
-use Rattle.std.proofs.Common.{get_or, sym, ap, ◌∙◌, rules}
+use Rattle.std.proofs.Common.{get_or, sym, ap, ◌∙◌}
 use borrow.Author.Tests.{not-true, not-false}
 use Rattle.rbitcoin_mempool.specs.Answer.{rate}
 use Rattle.rbitcoin_mempool.proofs.Quantiles.{quantile-by, quantile_empty, quantile-refused, quantile-found, leaves_empty, leaves-refused, leaves_sorted}
@@ -8,9 +8,9 @@ use Rattle.rbitcoin_mempool.proofs.fee_analog.quantile.log_quantile.Goals as goa
 
 pub returns-then-n-eq0 : goal.returns-then-n-eq0
 returns-then-n-eq0 c = record {
-      result_value = quantile_empty c.args.confidence c.args.outcomes.now c.if-n-eq0.true;
-      outcomes_after = leaves_empty c.args.confidence c.args.outcomes.now c.if-n-eq0.true;
-    }
+  result_value = quantile_empty c.args.confidence c.args.outcomes.now c.if-n-eq0.true;
+  outcomes_after = leaves_empty c.args.confidence c.args.outcomes.now c.if-n-eq0.true;
+}
 
 pub returns-then-not-in_unit : goal.returns-then-not-in_unit
 returns-then-not-in_unit c =

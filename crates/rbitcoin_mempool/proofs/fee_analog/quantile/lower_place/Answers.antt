@@ -1,5 +1,5 @@
 -- `fee_analog::quantile::lower_place` meets its contract. Assumes nothing.
-use Rattle.std.proofs.Common.{◌-◌, ap, ◌∙◌, rules}
+use Rattle.std.proofs.Common.{◌-◌, ap, ◌∙◌}
 use Rattle.num.specs.Float.{to_u64}
 use Rattle.rbitcoin_mempool.specs.Quantile.{lower_place}
 use Rattle.rbitcoin_mempool.proofs.fee_analog.quantile.lower_place.Goals as goal

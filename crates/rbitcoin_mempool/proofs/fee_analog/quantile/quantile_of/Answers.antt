@@ -1,5 +1,4 @@
 -- `fee_analog::quantile::quantile_of` meets its contract. Assumes nothing.
-use Rattle.std.proofs.Common.{rules}
 use Rattle.rbitcoin_mempool.proofs.Quantiles.{quantile-by, repeated}
 use Rattle.rbitcoin_mempool.proofs.fee_analog.quantile.quantile_of.Goals as goal
 

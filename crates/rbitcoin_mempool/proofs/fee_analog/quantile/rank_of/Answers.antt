@@ -1,5 +1,4 @@
 -- `fee_analog::quantile::rank_of` meets its contract. Assumes nothing.
-use Rattle.std.proofs.Common.{rules}
 use Rattle.rbitcoin_mempool.specs.Quantile.{rank_of}
 use Rattle.rbitcoin_mempool.proofs.fee_analog.quantile.rank_of.Goals as goal
 

@@ -1,5 +1,4 @@
 -- `fee_analog::refusals::lent_refusal` meets its contract. Assumes nothing.
-use Rattle.std.proofs.Common.{rules}
 use Rattle.rbitcoin_mempool.specs.Windows.{lent_refusal}
 use Rattle.rbitcoin_mempool.proofs.Refusals.{first_stands, then_second}
 use Rattle.rbitcoin_mempool.proofs.fee_analog.refusals.lent_refusal.Goals as goal

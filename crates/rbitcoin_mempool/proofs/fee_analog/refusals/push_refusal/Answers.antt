@@ -1,5 +1,5 @@
 -- `fee_analog::refusals::push_refusal` meets its contract. Assumes nothing.
-use Rattle.std.proofs.Common.{rules, eq-eqb, ne_eqb}
+use Rattle.std.proofs.Common.{eq-eqb, ne_eqb}
 use Rattle.rbitcoin_mempool.specs.Windows.{push_refusal}
 use Rattle.rbitcoin_mempool.proofs.Refusals.{chosen, first_stands, then_second, unchosen}
 use Rattle.rbitcoin_mempool.proofs.fee_analog.refusals.push_refusal.Goals as goal

@@ -1,5 +1,5 @@
 -- `fee_analog::refusals::rebuild_refusal` meets its contract. Assumes nothing.
-use Rattle.std.proofs.Common.{rules, le-ltb, lt-ltb}
+use Rattle.std.proofs.Common.{le-ltb, lt-ltb}
 use Rattle.rbitcoin_mempool.specs.Windows.{rebuild_refusal}
 use Rattle.rbitcoin_mempool.proofs.Refusals.{chosen, first_stands, then_second, unchosen}
 use Rattle.rbitcoin_mempool.proofs.fee_analog.refusals.rebuild_refusal.Goals as goal

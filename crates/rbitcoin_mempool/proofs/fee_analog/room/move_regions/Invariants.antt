@@ -1,8 +1,6 @@
 -- `fee_analog::room::move_regions` meets its contract. The loop's invariant: the first d regions are moved. Assumes nothing.
-use Rattle.std.proofs.Common.{◌≡◌, ◌+◌, ◌-◌, ◌*◌, ◌<◌, ◌≤◌, length, ◌∙◌, arith, rules}
-use Rattle.slices.proofs.Runs.{copied}
+use Rattle.std.proofs.Common.{◌≡◌, ◌-◌, ◌≤◌, length}
 use Rattle.rbitcoin_mempool.specs.Windows.{each_target, move_region}
-use Rattle.rbitcoin_mempool.proofs.Regions.{each_more, each_none, region, region-fits}
 use Rattle.rbitcoin_mempool.proofs.fee_analog.room.move_regions.Given as goal
 
 abbrev pub invariant-loop-d : goal.invariant-loop-d

@@ -1,5 +1,5 @@
 -- `fee_analog::room::move_to` meets its contract. Assumes nothing.
-use Rattle.std.proofs.Common.{◌∙◌, arith, rules}
+use Rattle.std.proofs.Common.{◌∙◌, arith}
 use Rattle.slices.proofs.Runs.{copied}
 use Rattle.rbitcoin_mempool.specs.Windows.{moved_to}
 use Rattle.rbitcoin_mempool.proofs.Values.{windows-eq}

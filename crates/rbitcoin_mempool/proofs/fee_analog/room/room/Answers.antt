@@ -1,5 +1,5 @@
 -- `fee_analog::room::room` meets its contract. Assumes nothing.
-use Rattle.std.proofs.Common.{◌∙◌, rules}
+use Rattle.std.proofs.Common.{◌∙◌}
 use Rattle.rbitcoin_mempool.proofs.Values.{back-kept, back-moved, front_kept, front-moved}
 use Rattle.rbitcoin_mempool.proofs.fee_analog.room.room.Goals as goal
 

@@ -1,8 +1,7 @@
 -- `fee_analog::scan::find_target` meets its contract. The loop's invariant: no target before d is of n blocks. Assumes nothing.
-use Rattle.std.proofs.Common.{◌≡◌, ℕ, ◌-◌, ◌<◌, ◌≤◌, false, eqb, sym, ◌∙◌, arith, rules, below_more, eq-eqb, ne_eqb}
+use Rattle.std.proofs.Common.{sym, ◌∙◌, arith, below_more, eq-eqb, ne_eqb}
 use Rattle.slices.proofs.Search.{seek_is}
-use Rattle.rbitcoin_mempool.specs.Pairs.{ahead_of}
-use Rattle.rbitcoin_mempool.specs.Windows.{target_at, find_target}
+use Rattle.rbitcoin_mempool.specs.Windows.{find_target}
 use Rattle.rbitcoin_mempool.proofs.fee_analog.scan.find_target.Goals as goal
 
 pub loop-d-init : goal.loop-d-init

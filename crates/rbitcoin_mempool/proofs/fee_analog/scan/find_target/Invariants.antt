@@ -1,8 +1,7 @@
 -- `fee_analog::scan::find_target` meets its contract. The loop's invariant: no target before d is of n blocks. Assumes nothing.
-use Rattle.std.proofs.Common.{◌≡◌, ℕ, ◌-◌, ◌<◌, ◌≤◌, false, eqb, sym, ◌∙◌, arith, rules, below_more, eq-eqb, ne_eqb}
-use Rattle.slices.proofs.Search.{seek_is}
+use Rattle.std.proofs.Common.{◌≡◌, ℕ, ◌-◌, ◌<◌, ◌≤◌, false, eqb}
 use Rattle.rbitcoin_mempool.specs.Pairs.{ahead_of}
-use Rattle.rbitcoin_mempool.specs.Windows.{target_at, find_target}
+use Rattle.rbitcoin_mempool.specs.Windows.{target_at}
 use Rattle.rbitcoin_mempool.proofs.fee_analog.scan.find_target.Given as goal
 
 abbrev pub invariant-loop-d : goal.invariant-loop-d

@@ -1,5 +1,5 @@
 -- `fee_analog::scan::pairs_in` meets its contract. Assumes nothing.
-use Rattle.std.proofs.Common.{arith, rules}
+use Rattle.std.proofs.Common.{arith}
 use Rattle.rbitcoin_mempool.specs.Pairs.{windows_in}
 use Rattle.rbitcoin_mempool.proofs.Puts.{lookback-least}
 use Rattle.rbitcoin_mempool.proofs.fee_analog.scan.pairs_in.Goals as goal

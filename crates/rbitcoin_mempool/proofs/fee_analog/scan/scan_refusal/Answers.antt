@@ -1,5 +1,5 @@
 -- `fee_analog::scan::scan_refusal` meets its contract. Assumes nothing.
-use Rattle.std.proofs.Common.{sym, rules, le-ltb, lt-ltb}
+use Rattle.std.proofs.Common.{sym, le-ltb, lt-ltb}
 use Rattle.rbitcoin_mempool.specs.Scan.{scan_refusal}
 use Rattle.rbitcoin_mempool.proofs.Refusals.{first_stands, then_second}
 use Rattle.rbitcoin_mempool.proofs.fee_analog.scan.scan_refusal.Goals as goal

@@ -1,23 +1,24 @@
 -- `fee_analog::scan::tracks` meets its contract. The loop's invariant: whether a target before d is of n blocks. Assumes nothing.
-use Rattle.std.proofs.Common.{◌≡◌, ℕ, ◌+◌, ◌-◌, ◌<◌, ◌≤◌, Bool, true, false, eqb, ltb, sym, refl, ap, ◌∙◌, ⊎_elim, arith, rules, below_more, ltb-false, ltb-true, le-ltb, lt-ltb, eq-eqb, ne_eqb}
+use Rattle.std.proofs.Common.{◌≡◌, ℕ, ◌+◌, ◌<◌, ◌≤◌, Bool, true, false, ltb, sym, refl, ap, ◌∙◌, arith, below_more, ltb-false, ltb-true, le-ltb, lt-ltb, eq-eqb, ne_eqb}
 use Rattle.slices.specs.Search.{seek}
 use Rattle.slices.proofs.Search.{seek_is, sought}
-use Rattle.rbitcoin_mempool.specs.Pairs.{ahead_of}
-use Rattle.rbitcoin_mempool.specs.Windows.{target_at, find_target}
+use Rattle.rbitcoin_mempool.specs.Windows.{find_target}
 use Rattle.rbitcoin_mempool.proofs.fee_analog.scan.tracks.Goals as goal
+use Rattle.rbitcoin_mempool.proofs.fee_analog.scan.tracks.Goals.{then-analog_ahead-ahead, else-analog_ahead-ahead}
 
+-- whether one of the first d places passes
 abbrev any : (ℕ → Bool) → ℕ → Bool
 any p d = ltb (seek p 0 d) d
 
 module _ (p : ℕ → Bool) (d : ℕ) where
   hit : p d ≡ true → true ≡ any p (d + 1)
-  hit h =
-      let s = sought p 0 (d + 1) in
-      let go : (b : Bool) → any p (d + 1) ≡ b → true ≡ b = λ b. elim b [
-        | true ↦ λ e. refl
-        | false ↦ λ e. sym h ∙ s.before d (omega arith) (omega (arith, ltb-false (seek p 0 (d + 1)) (d + 1) e))
-      ] in
-      go (any p (d + 1)) refl
+  hit h = go (any p (d + 1)) refl
+    where
+      go : (b : Bool) → any p (d + 1) ≡ b → true ≡ b
+      go true e = refl
+      go false e =
+          let s = sought p 0 (d + 1) in
+          sym h ∙ s.before d (omega arith) (omega (arith, ltb-false (seek p 0 (d + 1)) (d + 1) e))
 
   miss : p d ≡ false → any p d ≡ any p (d + 1)
   miss h = go (any p d) refl
@@ -43,10 +44,10 @@ loop-d-preserved c =
     let e = c.analog_ahead.ensures.0 in
     let h = c.analog_ahead-ahead.ensures.0 in (
       omega arith,
-      ⊎_elim
-          (λ w. rw w.1 (hit _ _ (eq-eqb _ _ (sym e ∙ w.0.taken ∙ h))))
-          (λ w. rw w.1 (c.loop-d.invariant.1 ∙ miss _ _ (ne_eqb _ _ (λ q. w.0.left (e ∙ q ∙ sym h)))))
-          c.if-analog_ahead-ahead.branch,
+      elim c.if-analog_ahead-ahead.branch [
+        | then-analog_ahead-ahead w ↦ rw w.found-is (hit _ _ (eq-eqb _ _ (sym e ∙ w.if-analog_ahead-ahead.true ∙ h)))
+        | else-analog_ahead-ahead w ↦ rw w.found-is (c.loop-d.invariant.1 ∙ miss _ _ (ne_eqb _ _ (λ q. w.if-analog_ahead-ahead.false (e ∙ q ∙ sym h))))
+      ],
     )
 
 pub returns : goal.returns

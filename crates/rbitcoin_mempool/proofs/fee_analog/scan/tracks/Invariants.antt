@@ -1,11 +1,11 @@
 -- `fee_analog::scan::tracks` meets its contract. The loop's invariant: whether a target before d is of n blocks. Assumes nothing.
-use Rattle.std.proofs.Common.{◌≡◌, ℕ, ◌+◌, ◌-◌, ◌<◌, ◌≤◌, Bool, true, false, eqb, ltb, sym, refl, ap, ◌∙◌, ⊎_elim, arith, rules, below_more, ltb-false, ltb-true, le-ltb, lt-ltb, eq-eqb, ne_eqb}
+use Rattle.std.proofs.Common.{◌≡◌, ℕ, ◌-◌, ◌≤◌, Bool, eqb, ltb}
 use Rattle.slices.specs.Search.{seek}
-use Rattle.slices.proofs.Search.{seek_is, sought}
 use Rattle.rbitcoin_mempool.specs.Pairs.{ahead_of}
-use Rattle.rbitcoin_mempool.specs.Windows.{target_at, find_target}
+use Rattle.rbitcoin_mempool.specs.Windows.{target_at}
 use Rattle.rbitcoin_mempool.proofs.fee_analog.scan.tracks.Given as goal
 
+-- whether one of the first d places passes
 abbrev any : (ℕ → Bool) → ℕ → Bool
 any p d = ltb (seek p 0 d) d
 

@@ -1,5 +1,5 @@
 -- `fee_analog::history::AnalogHistory::new` meets its contract. Assumes nothing.
-use Rattle.std.proofs.Common.{length, ◌∙◌, rules}
+use Rattle.std.proofs.Common.{length, ◌∙◌}
 use Rattle.rbitcoin_mempool.specs.Windows.{fresh}
 use Rattle.rbitcoin_mempool.proofs.Refusals.{open-refused, open_done}
 use Rattle.rbitcoin_mempool.proofs.fee_analog.history.AnalogHistory.new.Goals as goal

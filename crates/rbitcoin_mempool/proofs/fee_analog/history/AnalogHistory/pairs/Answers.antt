@@ -1,5 +1,5 @@
 -- `fee_analog::history::AnalogHistory::pairs` meets its contract. Assumes nothing.
-use Rattle.std.proofs.Common.{sym, ap, ◌∙◌, arith, rules, ltb-false, ltb-true}
+use Rattle.std.proofs.Common.{sym, ap, ◌∙◌, arith, ltb-false, ltb-true}
 use Rattle.rbitcoin_mempool.specs.Counted.{counted_of}
 use Rattle.rbitcoin_mempool.specs.Windows.{state_refusal, pair_count}
 use Rattle.rbitcoin_mempool.proofs.Refusals.{sound}

@@ -1,5 +1,5 @@
 -- `fee_analog::history::AnalogHistory::pop_back` meets its contract. Assumes nothing.
-use Rattle.std.proofs.Common.{◌≡◌, sym, ap, ◌∙◌, rules}
+use Rattle.std.proofs.Common.{◌≡◌, sym, ap, ◌∙◌}
 use Rattle.rbitcoin_mempool.specs.Outcome.{verdict_of}
 use Rattle.rbitcoin_mempool.specs.Windows.{state_refusal}
 use Rattle.rbitcoin_mempool.proofs.Refusals.{popped-none, popped-refused, popped-some, refusing}

@@ -1,5 +1,5 @@
 -- `fee_analog::history::AnalogHistory::pop_front` meets its contract. Assumes nothing.
-use Rattle.std.proofs.Common.{◌≡◌, ◌+◌, sym, ap, ◌∙◌, arith, rules}
+use Rattle.std.proofs.Common.{◌≡◌, ◌+◌, sym, ap, ◌∙◌, arith}
 use Rattle.rbitcoin_mempool.specs.Outcome.{verdict_of}
 use Rattle.rbitcoin_mempool.specs.Windows.{state_refusal}
 use Rattle.rbitcoin_mempool.proofs.Refusals.{popped-none, popped-refused, popped-some, refusing, sound}

@@ -1,5 +1,5 @@
 -- `fee_analog::history::AnalogHistory::rate_sat_kvb` meets its contract. Assumes nothing.
-use Rattle.std.proofs.Common.{ℕ, ◌<◌, sym, refl, ap, ◌∙◌, arith, rules}
+use Rattle.std.proofs.Common.{ℕ, ◌<◌, sym, refl, ap, ◌∙◌, arith}
 use borrow.Author.Tests.{not-true, not-false}
 use Rattle.rbitcoin_mempool.specs.Answer.{rate}
 use Rattle.rbitcoin_mempool.specs.Nearest.{neighbors}
@@ -73,7 +73,8 @@ unfolding rate_sat_kvb
 returns c =
     let w = windows c.args.self c.args.hurdles.now c.args.befores.now c.args.aheads.now in
     let z = sym c.scan_refusal-refusal.ensures ∙ c.if-refusal-ne0.false in
-    let at : ℕ → ℕ = λ c.find_target-d.ensures. quantile_of (neighbors (now_of (held_in w) (target_at c.args.self c.find_target-d.ensures)) (stored_pairs w c.find_target-d.ensures)) c.args.confidence in record {
+    let at : ℕ → ℕ = λ d. quantile_of (neighbors (now_of (held_in w) (target_at c.args.self d)) (stored_pairs w d)) c.args.confidence in
+    record {
       result_value = ap rate (c.scan-rate.ensures ∙ ap at c.find_target-d.ensures)
           ∙ rate-found w c.args.n_blocks c.args.confidence (omega (arith, c.find_target-d.ensures, c.if-d-self.false)) (omega (arith, c.pairs_in.ensures, c.if-pairs_in-lt-ANALOG_READY_PAIRS.false)) (sym c.in_unit.ensures ∙ not-false _ (not_from_true _ c.if-not-in_unit.false))
           ∙ answer-given _ _ z;

@@ -1,5 +1,5 @@
 -- `fee_analog::history::AnalogHistory::rebuild` meets its contract. Assumes nothing.
-use Rattle.std.proofs.Common.{◌≡◌, sym, ap, ◌∙◌, rules}
+use Rattle.std.proofs.Common.{◌≡◌, sym, ap, ◌∙◌}
 use Rattle.rbitcoin_mempool.specs.Outcome.{verdict_of}
 use Rattle.rbitcoin_mempool.specs.Windows.{push_all, rebuild_refusal_of, windows}
 use Rattle.rbitcoin_mempool.specs.declared.fee_analog.history.AnalogHistory.{AnalogHistory}
