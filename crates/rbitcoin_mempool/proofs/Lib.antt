@@ -7,9 +7,7 @@ pub mod Search
 pub mod Cases
 pub mod Maps
 pub mod Meter
-pub mod Behind
 pub mod MeterClocks
-pub mod MeterRead
 pub mod Medians
 pub mod Quantiles
 pub mod Refusals

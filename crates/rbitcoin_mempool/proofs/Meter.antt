@@ -1,25 +1,16 @@
 -- The fee flow meter: its rates at the opening, what a decay does to one number, the least time of a sample, and the bucket of an admission. Assumes nothing.
-use Rattle.std.proofs.Common.{◌≡◌, ℕ, zero, suc, ◌+◌, ◌-◌, ◌*◌, ◌<◌, ◌≤◌, Bool, true, false, cond, ◌&&◌, ◌||◌, eqb, ltb, length, get_or, sym, refl, ap, ◌∙◌, true≢false, arith, ltb-true, le-ltb, eqb-true}
-use borrow.Author.Rules.{length_unmapped}
-use denote.Laws.{Is}
-use denote.Struct.Laws as LL
+use Rattle.std.proofs.Common.{◌≡◌, ℕ, zero, suc, ◌+◌, ◌-◌, ◌*◌, ◌<◌, ◌≤◌, Bool, true, false, cond, ◌&&◌, ◌||◌, eqb, ltb, get_or, sym, refl, ap, ◌∙◌, true≢false, arith, ltb-true, le-ltb, eqb-true}
 use lib.ListN.{get_or-replicate}
 use lib.Ieee.{Float, nan, inf, fin, binary64, up, down, mul, lt, eq, le, is_nan}
 use Rattle.num.specs.Float.{of_u64, max_of}
 use Rattle.slices.specs.Search.{seek}
 use Rattle.rbitcoin_mempool.specs.Edges.{edge_at, first_above, bucket_index}
 use Rattle.rbitcoin_mempool.specs.declared.fee_flow.FeeFlowMeter.{FeeFlowMeter}
-use Rattle.rbitcoin_mempool.specs.contracts.fee_flow.FeeFlowMeter as T
-use Rattle.rbitcoin_mempool.proofs.fee_flow.FeeFlowMeter.TheLaws as T'
 use Rattle.rbitcoin_mempool.specs.Meter.{least_secs, gap, share_left, decayed, new_meter}
 
 -- every rate of a new meter is 0
 pub new_meter-zero : (now k : ℕ) → k < 402 → get_or (new_meter now).admit_wu_s k nan ≡ of_u64 0
 new_meter-zero now k h = get_or-replicate {A = Float} 402 k (of_u64 0) nan h
-
--- the array of a meter that was passed has 402 rates
-pub rates-long : (m : FeeFlowMeter) → Is T.the_row m (LL.vals T.the_type T'.the_laws m) → length m.admit_wu_s ≡ 402
-rates-long m is = length_unmapped Float m.admit_wu_s 402 (LL.owed T.the_type T'.the_laws m _ is).0.1.0.1
 
 pub decayed-none : (dt x : Float) → le dt (of_u64 0) ≡ true → decayed dt x ≡ x
 unfolding decayed

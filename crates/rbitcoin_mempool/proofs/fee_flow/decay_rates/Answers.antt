@@ -1,8 +1,8 @@
 -- `fee_flow::decay_rates` meets its contract. The loop's invariant: the first i rates are decayed. Assumes nothing.
-use Rattle.std.proofs.Common.{◌≡◌, ◌-◌, ◌<◌, ◌≤◌, length, get_or, sym, refl, ◌∙◌, arith}
+use Rattle.std.proofs.Common.{◌≡◌, ◌<◌, ◌≤◌, length, get_or, sym, refl, ◌∙◌, arith}
 use lib.Ieee.{nan, binary64, mul, of_bits, of_int}
 use Rattle.rbitcoin_mempool.specs.Meter.{decayed}
-use Rattle.rbitcoin_mempool.proofs.Maps.{map_same, filled, filled_at, filled_more, filled_all}
+use Rattle.rbitcoin_mempool.proofs.Maps.{map_same, filled_at, filled_more, filled_all}
 use Rattle.rbitcoin_mempool.proofs.Meter.{decayed-none, decayed-by}
 use Rattle.rbitcoin_mempool.proofs.fee_flow.decay_rates.Goals as goal
 
@@ -12,24 +12,6 @@ returns-then-dt c = sym (map_same (decayed c.args.dt) (λ x. decayed-none c.args
 
 pub loop-i-init : goal.loop-i-init
 loop-i-init c = (omega arith, refl)
-
-pub offset_bounds-rates-i : goal.offset_bounds-rates-i
-offset_bounds-rates-i c = omega arith
-
-pub bounds-rates-i : goal.bounds-rates-i
-bounds-rates-i c = omega arith
-
-pub offset_bounds-rates-i-in-loop-i : goal.offset_bounds-rates-i-in-loop-i
-offset_bounds-rates-i-in-loop-i c = omega arith
-
-pub bounds-rates-i-in-loop-i : goal.bounds-rates-i-in-loop-i
-bounds-rates-i-in-loop-i c = omega arith
-
-pub overflow_add-i : goal.overflow_add-i
-overflow_add-i c = omega arith
-
-pub loop-i-smaller : goal.loop-i-smaller
-loop-i-smaller c = omega arith
 
 pub loop-i-preserved : goal.loop-i-preserved
 unfolding of_bits of_int

@@ -1,9 +1,7 @@
 -- `fee_flow::decay_rates` meets its contract. The loop's invariant: the first i rates are decayed. Assumes nothing.
-use Rattle.std.proofs.Common.{◌≡◌, ◌-◌, ◌<◌, ◌≤◌, length, get_or, sym, refl, ◌∙◌, arith}
-use lib.Ieee.{nan, binary64, mul, of_bits, of_int}
+use Rattle.std.proofs.Common.{◌≡◌, ◌-◌, ◌≤◌}
 use Rattle.rbitcoin_mempool.specs.Meter.{decayed}
-use Rattle.rbitcoin_mempool.proofs.Maps.{map_same, filled, filled_at, filled_more, filled_all}
-use Rattle.rbitcoin_mempool.proofs.Meter.{decayed-none, decayed-by}
+use Rattle.rbitcoin_mempool.proofs.Maps.{filled}
 use Rattle.rbitcoin_mempool.proofs.fee_flow.decay_rates.Given as goal
 
 abbrev pub invariant-loop-i : goal.invariant-loop-i

@@ -1,7 +1,6 @@
 -- `fee_flow::secs_between` meets its contract. Assumes nothing.
 use lib.Ieee.{of_int, of_bits}
 use Rattle.rbitcoin_mempool.specs.Meter.{gap}
-use Rattle.std.proofs.Common.{rules}
 use Rattle.rbitcoin_mempool.proofs.fee_flow.secs_between.Goals as goal
 
 pub returns : goal.returns

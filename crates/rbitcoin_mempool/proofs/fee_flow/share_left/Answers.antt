@@ -1,7 +1,6 @@
 -- `fee_flow::share_left` meets its contract. Assumes nothing.
 use lib.Ieee.{of_int, of_bits}
 use Rattle.rbitcoin_mempool.specs.Meter.{share_left}
-use Rattle.std.proofs.Common.{rules}
 use Rattle.rbitcoin_mempool.proofs.fee_flow.share_left.Goals as goal
 
 pub returns : goal.returns

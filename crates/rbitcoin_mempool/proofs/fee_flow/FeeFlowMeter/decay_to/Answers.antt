@@ -1,6 +1,5 @@
 -- `fee_flow::FeeFlowMeter::decay_to` meets its contract. Assumes nothing.
 use Rattle.rbitcoin_mempool.specs.Meter.{decay_to}
-use Rattle.std.proofs.Common.{rules}
 use Rattle.rbitcoin_mempool.proofs.fee_flow.FeeFlowMeter.decay_to.Goals as goal
 
 pub returns : goal.returns

@@ -1,7 +1,6 @@
 -- `fee_flow::FeeFlowMeter::full` meets its contract. Assumes nothing.
 use lib.Ieee.{of_bits, of_int}
 use Rattle.rbitcoin_mempool.specs.Meter.{full}
-use Rattle.std.proofs.Common.{rules}
 use Rattle.rbitcoin_mempool.proofs.fee_flow.FeeFlowMeter.full.Goals as goal
 
 pub returns : goal.returns
