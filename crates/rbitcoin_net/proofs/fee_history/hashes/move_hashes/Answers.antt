@@ -1,0 +1,13 @@
+-- `fee_history::hashes::move_hashes` meets its contract. Assumes nothing.
+use native.Mathlib.Omega.{arith}
+use mathlib.Core.Path.{◌∙◌}
+use Rattle.slices.proofs.Runs.{copied}
+use Rattle.rbitcoin_net.specs.Lent.{hashes}
+use borrow.Author.Rules.{rules}
+use Rattle.rbitcoin_net.proofs.fee_history.hashes.move_hashes.Goals as goal
+
+pub returns : goal.returns
+returns c =
+    let e = c.copy_within_u32.ensures ∙ copied c.args.heights.now _ _ _ (omega arith) (omega arith) in
+    let d = c.copy_within_u8.ensures ∙ copied c.args.bytes.now _ _ _ (omega arith) (omega arith) in
+    λ i. hashes (e i) (d i)

@@ -1,0 +1,27 @@
+-- `fee_history::rates::push_rows` meets its contract. Assumes nothing.
+use Prim.Native.Nat.{ℕ, ◌+◌, ◌-◌, ◌≤◌, ◌<◌}
+use mathlib.Core.Bool.{false}
+use mathlib.Core.List.{List}
+use mathlib.Core.Path.{◌≡◌, refl, ap, ◌∙◌}
+use native.Mathlib.Omega.{arith}
+use lib.ListN.{length}
+use Rattle.slices.specs.Lists.{tabulate}
+use Rattle.rbitcoin_mempool.specs.Rates.{given}
+use Rattle.rbitcoin_mempool.specs.Windows.{push_all, push_back_of, windows}
+use Rattle.rbitcoin_net.specs.History.{hurdles_of}
+use Rattle.rbitcoin_net.specs.Inserts.{push_rate}
+use Rattle.rbitcoin_net.specs.Lent.{rows, row_at}
+use Rattle.rbitcoin_net.proofs.Rating.{rows_turn, rows_start, rows-done}
+use borrow.Author.Rules.{rules}
+use Rattle.rbitcoin_net.proofs.fee_history.rates.push_rows.Given as goal
+
+abbrev pub invariant-loop-i : goal.invariant-loop-i
+invariant-loop-i l =
+    (l.i ≤ l.n)
+    × ((length l.hurdles ≡ length l.initial.hurdles)
+    × ((length l.befores ≡ length l.initial.befores)
+    × ((length l.aheads ≡ length l.initial.aheads)
+    × ((hs zs : List ℕ) → push_all (hurdles_of (tabulate (row_at (rows hs l.marks l.rates zs)) (l.start + l.i) (l.n - l.i))) (windows l.t l.hurdles l.befores l.aheads) ≡ push_all (hurdles_of (tabulate (row_at (rows hs l.marks l.rates zs)) l.start l.n)) (windows l.initial.t l.initial.hurdles l.initial.befores l.initial.aheads)))))
+
+abbrev pub decreases-loop-i : goal.decreases-loop-i
+decreases-loop-i l = l.n - l.i
