@@ -1,0 +1,11 @@
+-- `exports::capacity::juleyomu_percentile_sat` meets its contract: the fields are those of the answer. Assumes nothing.
+use borrow.Author.Rules.{rules}
+use mathlib.Core.Path.{subst}
+use Rattle.rbitcoin_mempool.specs.Answer.{Answer}
+use Rattle.exports.specs.Fields.{Fields}
+use Rattle.exports.proofs.capacity.juleyomu_percentile_sat.Goals as goal
+
+pub returns : goal.returns
+returns c =
+    let r = c.rate_fields.result in
+    subst (λ (a : Answer). Fields a r.refusal r.mark r.rate) c.percentile_sat.ensures c.rate_fields.ensures

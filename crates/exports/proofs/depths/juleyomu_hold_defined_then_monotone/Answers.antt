@@ -1,0 +1,10 @@
+-- `exports::depths::juleyomu_hold_defined_then_monotone` meets its contract: the number is that of the outcome. Assumes nothing.
+use borrow.Author.Rules.{rules}
+use mathlib.Core.Path.{ap, ◌∙◌}
+use Rattle.rbitcoin_mempool.specs.Rates.{number_of}
+use Rattle.exports.proofs.Verdicts.{number_same}
+use Rattle.exports.proofs.depths.juleyomu_hold_defined_then_monotone.Goals as goal
+
+pub returns : goal.returns
+returns c =
+    (c.refusal_number.ensures ∙ number_same c.hold_defined_then_monotone.result ∙ ap number_of c.hold_defined_then_monotone.ensures.result_value, c.hold_defined_then_monotone.ensures.?.1)

@@ -1,0 +1,13 @@
+-- `exports::depths::juleyomu_published_depth_rate` meets its contract: the rate is marked as the answer is. Assumes nothing.
+use borrow.Author.Rules.{rules}
+use mathlib.Core.Path.{ap, ◌∙◌}
+use Rattle.rbitcoin_mempool.specs.Rates.{number_of, mark_of}
+use Rattle.exports.proofs.depths.juleyomu_published_depth_rate.Goals as goal
+
+pub returns : goal.returns
+returns c =
+    let e = rw (c.rate_of.ensures, c.rate_of-2.ensures, c.rate_of-3.ensures, c.rate_of-4.ensures) at c.published_depth_rate.ensures.result_value in
+    record {
+      mark_value = c.marked_rate.ensures.0 ∙ ap mark_of e;
+      rate_value = c.marked_rate.ensures.1 ∙ ap number_of e;
+    }

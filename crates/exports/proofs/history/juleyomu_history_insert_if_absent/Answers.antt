@@ -1,0 +1,10 @@
+-- `exports::history::juleyomu_history_insert_if_absent` meets its contract: the fields are those of the answer. Assumes nothing.
+use borrow.Author.Rules.{rules}
+use mathlib.Core.Path.{ap, sym, ◌∙◌}
+use Rattle.exports.proofs.Verdicts.{verdict-back}
+use Rattle.rbitcoin_mempool.specs.Outcome.{verdict_of}
+use Rattle.exports.proofs.history.juleyomu_history_insert_if_absent.Goals as goal
+
+pub returns : goal.returns
+returns c =
+    rw c.history_fields.ensures.1 (rw (ap verdict_of c.history_fields.ensures.0 ∙ sym (verdict-back _ _ c.insert_if_absent.ensures.outcome)) (rw (sym c.Block-of.ensures) c.insert_if_absent.ensures))

@@ -1,0 +1,6 @@
+-- `exports::windows::answered` meets its contract: the elements are those of the targets. Assumes nothing.
+use borrow.Author.Rules.{rules}
+use Rattle.exports.proofs.windows.answered.Goals as goal
+
+pub returns : goal.returns
+returns c = rw c.targets_one_by_one.ensures
