@@ -19,6 +19,7 @@ DECLARED = re.compile(r"^\s*((?:(?:pub|abbrev|unfoldable|data|record)\s+)*)([A-Z
 WORDS = {"use", "module", "where", "let", "in", "elim", "open", "unfolding", "pub", "abbrev", "unfoldable", "data", "record"}
 # lemmas that would get the name of a definition or of a function
 TAKEN = {name: name.replace("-", "_") + "_lem" for name in ("abs-bits", "at-index", "from_one", "last-there", "marks-valid", "nearest-quotient", "of-bits")}
+UNITS = {"kvB"}  # sat/kvB, as comments write it
 HEX = re.compile(r"^x[0-9A-F_]+$|^0x")
 
 
@@ -85,7 +86,7 @@ def table():
     for path in files("crates", (".antt", ".rt")):
         for m in PART.finditer(read(path)):
             name = m[0]
-            if name not in new and re.search(r"[a-z0-9][A-Z]", name) and name[:1].islower() and "-" not in name and not HEX.match(name):
+            if name not in new and re.search(r"[a-z0-9][A-Z]", name) and name[:1].islower() and "-" not in name and name not in UNITS and not HEX.match(name):
                 new[name] = snake(name)
     return new | TAKEN
 

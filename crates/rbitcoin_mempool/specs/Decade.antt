@@ -6,7 +6,7 @@ use Rattle.rbitcoin_mempool.specs.Edges.{min_relay, scale, ln10, series}
 unfoldable pub fine_edge : ℕ → ℕ
 fine_edge j = min_relay * 10000 * series (j * ln10 / 100) 39 1 scale scale / scale
 
--- half a sat/kv_b in the fine units of the decade d, 10^(2 + d) to 10^(3 + d)
+-- half a sat/kvB in the fine units of the decade d, 10^(2 + d) to 10^(3 + d)
 abbrev pub half_unit : ℕ → ℕ
 half_unit zero = 5000
 half_unit (suc zero) = 500

@@ -22,7 +22,7 @@ pub record OneLength (a : Args) (out out_marks : ℕ) : Type 0 where
   pub output : out ≡ length a.depths
   pub output_marks : out_marks ≡ length a.depths
 
--- no depth below one before it; "each projected, frontier, history and confirm rate is missing or at most 2^50 sat/kv_b"
+-- no depth below one before it; "each projected, frontier, history and confirm rate is missing or at most 2^50 sat/kvB"
 pub record Premises (a : Args) (out out_marks : ℕ) : Type 0 where
   pub lengths : OneLength a out out_marks
   pub ascending : (i j : ℕ) → i ≤ j → j < length a.depths → slice_index a.depths i ≤ slice_index a.depths j

@@ -11,7 +11,7 @@ pub const FLOW_BUCKET_DECADES: usize = 4;
 
 pub const FLOW_BUCKET_EDGE_COUNT: usize = FLOW_BUCKET_DECADES * FLOW_BUCKETS_PER_DECADE + 1;
 
-// sat/kv_b: 100 geometric steps a decade, from the relay minimum of 100 to 1,000,000.
+// sat/kvB: 100 geometric steps a decade, from the relay minimum of 100 to 1,000,000.
 pub const FEE_BUCKET_EDGES_SAT_PER_KVB: [u64; 401] = [
     100, 102, 105, 107, 110, 112, 115, 117, 120, 123, 126, 129, 132, 135, 138, 141, 145, 148, 151,
     155, 158, 162, 166, 170, 174, 178, 182, 186, 191, 195, 200, 204, 209, 214, 219, 224, 229, 234,

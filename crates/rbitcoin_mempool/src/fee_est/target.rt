@@ -60,7 +60,7 @@ fn line_over(left: u64, right: u64, dist: u64, span: u64) -> u64
     line_wide(left, right, dist, span)
 }
 
-// `left` at d0, `right` at d1, the straight line at `target` in between, to the nearest sat/kv_b,
+// `left` at d0, `right` at d1, the straight line at `target` in between, to the nearest sat/kvB,
 // halves away from zero, clamped to the two ends.
 pub fn lerp_sat_kvb(d0: u32, left: u64, d1: u32, right: u64, target: u32) -> u64
     ensures { result ≡ lerp_sat_kvb d0 left d1 right target }

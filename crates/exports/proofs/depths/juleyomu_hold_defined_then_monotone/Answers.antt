@@ -7,4 +7,9 @@ use Rattle.exports.proofs.depths.juleyomu_hold_defined_then_monotone.Goals as go
 
 pub returns : goal.returns
 returns c =
-    (c.refusal_number.ensures ∙ number_same c.hold_defined_then_monotone.result ∙ ap number_of c.hold_defined_then_monotone.ensures.result_value, c.hold_defined_then_monotone.ensures.?.1)
+    let h = c.hold_defined_then_monotone.ensures in
+    record {
+      value = c.refusal_number.ensures ∙ number_same c.hold_defined_then_monotone.result ∙ ap number_of h.result_value;
+      rates_after = h.rates_after;
+      marks_after = h.marks_after;
+    }

@@ -7,4 +7,4 @@ use Rattle.exports.proofs.history.juleyomu_history_insert.Goals as goal
 
 pub returns : goal.returns
 returns c =
-    rw c.history_fields.ensures.1 (rw (ap verdict_of c.history_fields.ensures.0 ∙ sym (verdict-back _ _ c.insert.ensures.outcome)) (rw (sym c.Block-of.ensures) c.insert.ensures))
+    rw c.history_fields.ensures.1 (rw (ap verdict_of c.history_fields.ensures.0 ∙ sym (verdict-back _ _ c.insert.ensures.outcome)) (rw (sym c.block_of.ensures) c.insert.ensures))

@@ -7,4 +7,4 @@ use Rattle.exports.proofs.history.juleyomu_history_insert_if_absent.Goals as goa
 
 pub returns : goal.returns
 returns c =
-    rw c.history_fields.ensures.1 (rw (ap verdict_of c.history_fields.ensures.0 ∙ sym (verdict-back _ _ c.insert_if_absent.ensures.outcome)) (rw (sym c.Block-of.ensures) c.insert_if_absent.ensures))
+    rw c.history_fields.ensures.1 (rw (ap verdict_of c.history_fields.ensures.0 ∙ sym (verdict-back _ _ c.insert_if_absent.ensures.outcome)) (rw (sym c.block_of.ensures) c.insert_if_absent.ensures))
