@@ -1,2 +1,2 @@
--- The lemmas.
+-- Laws that the functions' proofs cite.
 pub mod Feeds
