@@ -1,12 +1,8 @@
 -- `board::feed` meets its contract: after i turns, i bytes are read. Assumes nothing.
-use Prim.Native.Nat.{◌≤◌, ◌-◌, zero-le}
-use native.Mathlib.Omega.{arith}
-use mathlib.Core.Path.{◌≡◌, ap, sym, ◌∙◌}
-use lib.ListN.{length, get_or, take}
-use lib.Seq.{take_all}
-use Rattle.quote_lines.specs.Store.{State, state_of, byte_read, fed}
-use Rattle.quote_lines.proofs.Keeps.{fed-none, fed_more}
-use borrow.Author.Rules.{rules}
+use Prim.Native.Nat.{◌≤◌, ◌-◌}
+use mathlib.Core.Path.{◌≡◌}
+use lib.ListN.{length, take}
+use Rattle.quote_lines.specs.Store.{state_of, fed}
 use Rattle.quote_lines.proofs.board.feed.Given as goal
 
 abbrev pub invariant-loop-i : goal.invariant-loop-i

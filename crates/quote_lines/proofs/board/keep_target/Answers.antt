@@ -3,7 +3,6 @@ use mathlib.Core.Path.{ap, sym, ◌∙◌}
 use Rattle.quote_lines.specs.declared.board.Counts.{Counts}
 use Rattle.quote_lines.specs.Store.{kept}
 use Rattle.quote_lines.proofs.Keeps.{target-not, target-kept}
-use borrow.Author.Rules.{rules}
 use Rattle.quote_lines.proofs.board.keep_target.Goals as goal
 
 pub returns-then-n-ge-MOST : goal.returns-then-n-ge-MOST

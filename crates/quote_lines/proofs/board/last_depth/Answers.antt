@@ -1,7 +1,6 @@
 -- `board::last_depth` meets its contract. Assumes nothing.
 use borrow.Author.Tests.{eq-eqb, ne_eqb}
 use Rattle.quote_lines.specs.Store.{last_depth}
-use borrow.Author.Rules.{rules}
 use Rattle.quote_lines.proofs.board.last_depth.Goals as goal
 
 pub returns-then-n-eq0 : goal.returns-then-n-eq0

@@ -3,7 +3,6 @@ use mathlib.Core.Path.{refl, ap, ◌∙◌}
 use Rattle.quote_lines.specs.declared.board.Reader.{Reader}
 use Rattle.quote_lines.specs.Store.{zeros, state_of, fed, finished, seen}
 use Rattle.quote_lines.proofs.Inputs.{reads}
-use borrow.Author.Rules.{rules}
 use Rattle.quote_lines.proofs.board.read.Goals as goal
 
 pub returns : goal.returns
@@ -13,6 +12,3 @@ returns c =
       result_value = e;
       result_value_2 = ap seen e ∙ reads zeros zeros zeros zeros refl refl refl refl c.args.input.now;
     }
-
-pub read_spec : {M : Type 1} → statement M
-read_spec = tie.close (tie.spec new-requires feed-requires finish-requires returns)

@@ -3,7 +3,6 @@ use Prim.Native.Nat.{◌^◌}
 use native.Mathlib.Omega.{arith}
 use borrow.Author.Tests.{le-leb, lt-leb, lt-ltb, le-ltb}
 use Rattle.quote_lines.specs.Bytes.{shifted}
-use borrow.Author.Rules.{rules}
 use Rattle.quote_lines.proofs.field.digits_on.Goals as goal
 
 pub returns-then-b-lt48 : goal.returns-then-b-lt48

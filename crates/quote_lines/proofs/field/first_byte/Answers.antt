@@ -1,6 +1,5 @@
 -- `field::first_byte` meets its contract. Assumes nothing.
 use borrow.Author.Tests.{eq-eqb, ne_eqb}
-use borrow.Author.Rules.{rules}
 use Rattle.quote_lines.proofs.field.first_byte.Goals as goal
 
 pub returns-then-b-eq68 : goal.returns-then-b-eq68
