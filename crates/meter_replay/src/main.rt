@@ -56,13 +56,14 @@ fn replay(words: &[u64]) -> FeeFlowMeter {
 }
 
 fn answer<W: Write>(to: &mut W, line: &[u8]) -> io::Result<()> {
-    if replay_lines::name(line) == b"meter" {
-        let mut words = [0u64; 512];
-        replay_lines::words(line, &mut words);
-        put_meter(to, replay(&words))?;
-        return Ok(());
+    match replay_lines::name(line) {
+        b"meter" => {
+            let mut words = [0u64; 512];
+            replay_lines::words(line, &mut words);
+            put_meter(to, replay(&words))
+        }
+        _ => put::unknown(to),
     }
-    put::unknown(to)
 }
 
 fn answer_all<W: Write>(to: &mut W, lines: &[u8]) -> io::Result<()> {
