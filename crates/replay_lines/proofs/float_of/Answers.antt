@@ -1,5 +1,6 @@
 -- `replay_lines::float_of` meets its contract: with the sign taken off, the patterns above infinity's are the NaNs'. Assumes nothing.
-use Rattle.std.proofs.Common.{◌≡◌, true, sym, refl, ◌∙◌, true≢false, le-ltb, lt-ltb}
+use Rattle.std.proofs.Common.{◌≡◌, true, sym, refl, ◌∙◌, true≢false, arith, lt-ltb}
+use Rattle.std.proofs.lemmas.Float.{not_nan_f64_bits}
 use lib.Ieee.{Float, nan, inf, fin, binary64, div, is_nan, of_bits}
 use lib.Ieee.Bits.{nan_bits_is, nan_bits_above}
 use Rattle.replay_lines.proofs.float_of.Goals as goal
@@ -20,4 +21,4 @@ returns-then-bits-gt9218868437227405312 c =
     ∙ only_nan _ (sym (nan_bits_is binary64 c.args.bits) ∙ nan_bits_above binary64 c.args.bits ∙ lt-ltb _ _ c.if-bits-gt9218868437227405312.true)
 
 pub float_from_bits-result : goal.float_from_bits-result
-float_from_bits-result c = rw (nan_bits_above, le-ltb _ _ c.if-bits-gt9218868437227405312.false) tt
+float_from_bits-result c = not_nan_f64_bits _ (omega arith)
