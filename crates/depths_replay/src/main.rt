@@ -5,55 +5,60 @@
 // 0, the mark and the rate.
 #![tactic(auto)]
 
-use libc::STDIN_FILENO;
 use rbitcoin_mempool::answer::{Outcome, Rate, RateAnswer};
 use rbitcoin_mempool::fee_est;
 use replay_lines::{after_list, copy_u8, copy_u32, copy_u64, list, put, word_at};
+use std::io;
+use std::io::{BufWriter, Read, Write};
 
-fn put_mark(mark: u8) {
-    put::next(mark as u64);
+fn put_mark<W: Write>(to: &mut W, mark: u8) -> io::Result<()> {
+    put::next(to, mark as u64)
 }
 
-fn put_marks(list: &[u8]) {
-    put::next(list.len() as u64);
-    let mut i: usize = 0;
-    while i < list.len() {
-        put_mark(list[i]);
-        i += 1;
+fn put_marks<W: Write>(to: &mut W, list: &[u8]) -> io::Result<()> {
+    put::next(to, list.len() as u64)?;
+    for mark in list {
+        put_mark(to, *mark)?;
     }
+    Ok(())
 }
 
-fn put_marked(mark: u64, rate: u64) {
-    put::word(mark);
-    put::next(rate);
-    put::newline();
+fn put_marked<W: Write>(to: &mut W, mark: u64, rate: u64) -> io::Result<()> {
+    put::word(to, mark)?;
+    put::next(to, rate)?;
+    put::newline(to)
 }
 
-fn put_rate(rate: Rate) {
+fn put_rate<W: Write>(to: &mut W, rate: Rate) -> io::Result<()> {
     match rate {
-        Rate::There(number) => put_marked(1, number),
-        Rate::Missing => put_marked(0, 0),
+        Rate::There(number) => put_marked(to, 1, number),
+        Rate::Missing => put_marked(to, 0, 0),
     }
 }
 
-fn put_answer(answer: RateAnswer) {
+fn put_answer<W: Write>(to: &mut W, answer: RateAnswer) -> io::Result<()> {
     match answer {
-        RateAnswer::Found(rate) => put::fields(0, 1, rate),
-        RateAnswer::Nothing => put::fields(0, 0, 0),
-        RateAnswer::Refused(number) => put::fields(number as u64, 0, 0),
+        RateAnswer::Found(rate) => put::fields(to, 0, 1, rate)?,
+        RateAnswer::Nothing => put::fields(to, 0, 0, 0)?,
+        RateAnswer::Refused(number) => put::fields(to, number as u64, 0, 0)?,
     }
-    put::newline();
+    put::newline(to)
 }
 
-fn put_left(outcome: Outcome, numbers: &[u64], marks: &[u8]) {
+fn put_left<W: Write>(
+    to: &mut W,
+    outcome: Outcome,
+    numbers: &[u64],
+    marks: &[u8],
+) -> io::Result<()> {
     match outcome {
-        Outcome::Done => put::word(0),
-        Outcome::Refused(number) => put::word(number as u64),
+        Outcome::Done => put::word(to, 0)?,
+        Outcome::Refused(number) => put::word(to, number as u64)?,
     }
-    put::space();
-    put::list(numbers);
-    put_marks(marks);
-    put::newline();
+    put::space(to)?;
+    put::list(to, numbers)?;
+    put_marks(to, marks)?;
+    put::newline(to)
 }
 
 fn blocks(words: &[u64], at: usize) -> u32 {
@@ -73,46 +78,50 @@ fn rate(words: &[u64], at: usize) -> Rate {
     Rate::Missing
 }
 
-fn put_monotone(rates: &mut [u64]) {
+fn put_monotone<W: Write>(to: &mut W, rates: &mut [u64]) -> io::Result<()> {
     fee_est::enforce_monotone_desc(rates);
-    put::list(rates);
-    put::newline();
+    put::list(to, rates)?;
+    put::newline(to)
 }
 
-fn monotone(words: &[u64]) {
+fn monotone<W: Write>(to: &mut W, words: &[u64]) -> io::Result<()> {
     let mut rates = [0u64; 64];
     let n = copy_u64(list(words, 0), &mut rates);
-    put_monotone(&mut rates[..n]);
+    put_monotone(to, &mut rates[..n])
 }
 
-fn put_held(rates: &mut [u64], marks: &mut [u8]) {
+fn put_held<W: Write>(to: &mut W, rates: &mut [u64], marks: &mut [u8]) -> io::Result<()> {
     let outcome = fee_est::hold_defined_then_monotone(rates, marks);
-    put_left(outcome, rates, marks);
+    put_left(to, outcome, rates, marks)
 }
 
-fn hold(words: &[u64]) {
+fn hold<W: Write>(to: &mut W, words: &[u64]) -> io::Result<()> {
     let mut rates = [0u64; 64];
     let mut marks = [0u8; 64];
     let n = copy_u64(list(words, 0), &mut rates);
     let m = copy_u8(list(words, after_list(words, 0)), &mut marks);
-    put_held(&mut rates[..n], &mut marks[..m]);
+    put_held(to, &mut rates[..n], &mut marks[..m])
 }
 
-fn lookup(words: &[u64]) {
+fn lookup<W: Write>(to: &mut W, words: &[u64]) -> io::Result<()> {
     let mut depths = [0u32; 64];
     let mut marks = [0u8; 64];
     let n = copy_u32(list(words, 1), &mut depths);
     let rates = after_list(words, 1);
     let m = copy_u8(list(words, after_list(words, rates)), &mut marks);
-    put_answer(fee_est::fee_at_target_sat_kvb(
-        &depths[..n],
-        list(words, rates),
-        &marks[..m],
-        blocks(words, 0),
-    ));
+    put_answer(
+        to,
+        fee_est::fee_at_target_sat_kvb(
+            &depths[..n],
+            list(words, rates),
+            &marks[..m],
+            blocks(words, 0),
+        ),
+    )
 }
 
-fn put_published(
+fn put_published<W: Write>(
+    to: &mut W,
     depths: &[u32],
     projected: &[u64],
     projected_marks: &[u8],
@@ -124,7 +133,7 @@ fn put_published(
     alpha: f64,
     out: &mut [u64],
     out_marks: &mut [u8],
-) {
+) -> io::Result<()> {
     let outcome = fee_est::published_depth_rates(
         depths,
         projected,
@@ -138,11 +147,11 @@ fn put_published(
         out,
         out_marks,
     );
-    put_left(outcome, out, out_marks);
+    put_left(to, outcome, out, out_marks)
 }
 
 // Depths, three lists of rates with their marks, a list to write with its marks, a rate and a share.
-fn publish(words: &[u64]) {
+fn publish<W: Write>(to: &mut W, words: &[u64]) -> io::Result<()> {
     let projected_at = after_list(words, 0);
     let at = after_list(words, projected_at);
     let frontier_at = after_list(words, at);
@@ -174,6 +183,7 @@ fn publish(words: &[u64]) {
     let n = copy_u64(list(words, out_at), &mut out);
     let m = copy_u8(list(words, at), &mut out_marks);
     put_published(
+        to,
         depths,
         projected,
         projected_marks,
@@ -185,100 +195,112 @@ fn publish(words: &[u64]) {
         alpha,
         &mut out[..n],
         &mut out_marks[..m],
-    );
+    )
 }
 
 // Each of the following answers the functions of one group of arguments, and says whether the name
 // was one of them.
 
-fn of_depth(name: &[u8], words: &[u64]) -> bool {
+fn of_depth<W: Write>(to: &mut W, name: &[u8], words: &[u64]) -> io::Result<bool> {
     let n = blocks(words, 0);
-    if check::same(name, b"blend_weight") {
-        put::float(fee_est::blend_weight(n));
-    } else if check::same(name, b"flow_for_depth") {
-        put_rate(fee_est::flow_for_depth(rate(words, 1), rate(words, 3), n));
-    } else if check::same(name, b"blend_sat_kvb") {
-        put_rate(fee_est::blend_sat_kvb(rate(words, 1), rate(words, 3), n));
-    } else if check::same(name, b"warmup_blend") {
-        put_rate(fee_est::warmup_blend(share(words, 0), rate(words, 1), rate(words, 3)));
-    } else if check::same(name, b"depth_rate_sat_kvb") {
-        let warm = word_at(words, 1) == 1;
-        put_rate(fee_est::depth_rate_sat_kvb(
-            n,
-            warm,
+    match name {
+        b"blend_weight" => put::float(to, fee_est::blend_weight(n))?,
+        b"flow_for_depth" => put_rate(
+            to,
+            fee_est::flow_for_depth(rate(words, 1), rate(words, 3), n),
+        )?,
+        b"blend_sat_kvb" => put_rate(
+            to,
+            fee_est::blend_sat_kvb(rate(words, 1), rate(words, 3), n),
+        )?,
+        b"warmup_blend" => put_rate(
+            to,
+            fee_est::warmup_blend(share(words, 0), rate(words, 1), rate(words, 3)),
+        )?,
+        b"depth_rate_sat_kvb" => {
+            let warm = word_at(words, 1) == 1;
+            put_rate(
+                to,
+                fee_est::depth_rate_sat_kvb(
+                    n,
+                    warm,
+                    rate(words, 2),
+                    rate(words, 4),
+                    rate(words, 6),
+                ),
+            )?;
+        }
+        _ => return Ok(false),
+    }
+    Ok(true)
+}
+
+fn published<W: Write>(to: &mut W, words: &[u64]) -> io::Result<()> {
+    put_rate(
+        to,
+        fee_est::published_depth_rate(
+            blocks(words, 0),
+            share(words, 1),
             rate(words, 2),
             rate(words, 4),
             rate(words, 6),
-        ));
-    } else {
-        return false;
+            rate(words, 8),
+        ),
+    )
+}
+
+fn line<W: Write>(to: &mut W, words: &[u64]) -> io::Result<()> {
+    put::only(
+        to,
+        fee_est::lerp_sat_kvb(
+            blocks(words, 0),
+            word_at(words, 1),
+            blocks(words, 2),
+            word_at(words, 3),
+            blocks(words, 4),
+        ),
+    )
+}
+
+fn of_lists<W: Write>(to: &mut W, name: &[u8], words: &[u64]) -> io::Result<bool> {
+    match name {
+        b"published_depth_rate" => published(to, words)?,
+        b"lerp_sat_kvb" => line(to, words)?,
+        b"enforce_monotone_desc" => monotone(to, words)?,
+        b"hold_defined_then_monotone" => hold(to, words)?,
+        b"published_depth_rates" => publish(to, words)?,
+        b"fee_at_target_sat_kvb" => lookup(to, words)?,
+        _ => return Ok(false),
     }
-    true
+    Ok(true)
 }
 
-fn published(words: &[u64]) {
-    put_rate(fee_est::published_depth_rate(
-        blocks(words, 0),
-        share(words, 1),
-        rate(words, 2),
-        rate(words, 4),
-        rate(words, 6),
-        rate(words, 8),
-    ));
-}
-
-fn line(words: &[u64]) {
-    put::only(fee_est::lerp_sat_kvb(
-        blocks(words, 0),
-        word_at(words, 1),
-        blocks(words, 2),
-        word_at(words, 3),
-        blocks(words, 4),
-    ));
-}
-
-fn of_lists(name: &[u8], words: &[u64]) -> bool {
-    if check::same(name, b"published_depth_rate") {
-        published(words);
-    } else if check::same(name, b"lerp_sat_kvb") {
-        line(words);
-    } else if check::same(name, b"enforce_monotone_desc") {
-        monotone(words);
-    } else if check::same(name, b"hold_defined_then_monotone") {
-        hold(words);
-    } else if check::same(name, b"published_depth_rates") {
-        publish(words);
-    } else if check::same(name, b"fee_at_target_sat_kvb") {
-        lookup(words);
-    } else {
-        return false;
-    }
-    true
-}
-
-fn answer(line: &[u8]) {
+fn answer<W: Write>(to: &mut W, line: &[u8]) -> io::Result<()> {
     let name = replay_lines::name(line);
     let mut words = [0u64; 512];
     replay_lines::words(line, &mut words);
-    if of_depth(name, &words) {
-        return;
+    if of_depth(to, name, &words)? {
+        return Ok(());
     }
-    if of_lists(name, &words) {
-        return;
+    if of_lists(to, name, &words)? {
+        return Ok(());
     }
-    put::unknown();
+    put::unknown(to)
 }
 
-fn answer_all(lines: &[u8]) {
+fn answer_all<W: Write>(to: &mut W, lines: &[u8]) -> io::Result<()> {
     let mut at: usize = 0;
     while at < lines.len() {
-        answer(replay_lines::line(lines, at));
+        answer(to, replay_lines::line(lines, at))?;
         at = replay_lines::next_line(lines, at);
     }
+    Ok(())
 }
 
-fn main() {
-    let mut lines = io::large_buffer();
-    let n = io::read_full(STDIN_FILENO, &mut lines);
-    answer_all(&lines[..n]);
+fn main(rt: HostRuntime) -> io::Result<()> {
+    let mut lines = Vec::new(rt.alloc());
+    rt.reader().read_to_end(&mut lines)?;
+    let mut to = BufWriter::new(rt.alloc(), io::writer(&rt))?;
+    answer_all(&mut to, &lines)?;
+    to.flush()
 }

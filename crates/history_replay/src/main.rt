@@ -7,13 +7,14 @@
 
 ghost use Rattle.std.specs.Prelude.{◌≤◌};
 
-use libc::STDIN_FILENO;
 use rbitcoin_mempool::answer::{CountAnswer, Outcome, Rate};
 use rbitcoin_net::fee_history::{
     BlockAnswer, BlockHash, FeeHistory, HistoricalFeeBlock, HistoryUpdate,
 };
 use replay_lines::digests::mix;
 use replay_lines::{digests, put, word_at};
+use std::io;
+use std::io::{BufWriter, Read, Write};
 
 fn refusal_number(o: Outcome) -> u64 {
     match o {
@@ -176,7 +177,14 @@ fn rows_digest(n: usize, heights: &[u32], marks: &[u8], rates: &[u64], sizes: &[
 }
 
 // The rows, as `entries` writes them: their number and a digest.
-fn put_entries(s: FeeHistory, heights: &[u32], marks: &[u8], rates: &[u64], sizes: &[u64]) {
+fn put_entries<W: Write>(
+    to: &mut W,
+    s: FeeHistory,
+    heights: &[u32],
+    marks: &[u8],
+    rates: &[u64],
+    sizes: &[u64],
+) -> io::Result<()> {
     let mut out_heights = [0u32; 26];
     let mut out_marks = [0u8; 26];
     let mut out_rates = [0u64; 26];
@@ -191,32 +199,45 @@ fn put_entries(s: FeeHistory, heights: &[u32], marks: &[u8], rates: &[u64], size
         &mut out_rates,
         &mut out_sizes,
     ));
-    put::next(n as u64);
-    put::next(rows_digest(n, &out_heights, &out_marks, &out_rates, &out_sizes));
+    put::next(to, n as u64)?;
+    put::next(
+        to,
+        rows_digest(n, &out_heights, &out_marks, &out_rates, &out_sizes),
+    )
 }
 
 // The hashes, as `recent_hashes` writes them into lists of zeros: their number and a digest.
-fn put_hashes(s: FeeHistory, heights: &[u32], bytes: &[u8]) {
+fn put_hashes<W: Write>(
+    to: &mut W,
+    s: FeeHistory,
+    heights: &[u32],
+    bytes: &[u8],
+) -> io::Result<()> {
     let mut out_heights = [0u32; 144];
     let mut out_bytes = [0u8; 4608];
     let n = count_of(s.recent_hashes(heights, bytes, &mut out_heights, &mut out_bytes));
-    put::next(n as u64);
-    put::next(digests::digest_u8(digests::digest_u32(0, &out_heights), &out_bytes));
+    put::next(to, n as u64)?;
+    put::next(
+        to,
+        digests::digest_u8(digests::digest_u32(0, &out_heights), &out_bytes),
+    )
 }
 
 // The total, the number of hurdles and whether they are stale.
-fn put_state(s: FeeHistory) {
+fn put_state<W: Write>(to: &mut W, s: FeeHistory) -> io::Result<()> {
     let analog = s.analog;
-    put::next(s.txstat_bytes);
-    put::next(analog.count as u64);
+    put::next(to, s.txstat_bytes)?;
+    put::next(to, analog.count as u64)?;
     if s.analog_stale {
-        put::next(1);
+        put::next(to, 1)?;
     } else {
-        put::next(0);
+        put::next(to, 0)?;
     }
+    Ok(())
 }
 
-fn put_replayed(
+fn put_replayed<W: Write>(
+    to: &mut W,
     after: Replayed,
     heights: &[u32; 2304],
     marks: &[u8; 2304],
@@ -224,13 +245,13 @@ fn put_replayed(
     sizes: &[u64; 2304],
     kept: &[u32; 144],
     bytes: &[u8; 4608],
-) {
+) -> io::Result<()> {
     let s = after.state;
-    put::word(after.digest);
-    put_state(s);
-    put_entries(s, heights, marks, rates, sizes);
-    put_hashes(s, kept, bytes);
-    put::newline();
+    put::word(to, after.digest)?;
+    put_state(to, s)?;
+    put_entries(to, s, heights, marks, rates, sizes)?;
+    put_hashes(to, s, kept, bytes)?;
+    put::newline(to)
 }
 
 // How many blocks are connected.
@@ -270,23 +291,29 @@ fn generated(words: &[u64], out: &mut [u64; 4610]) -> usize {
     2 * n + 2
 }
 
-fn put_mark(mark: u8) {
-    put::next(mark as u64);
+fn put_mark<W: Write>(to: &mut W, mark: u8) -> io::Result<()> {
+    put::next(to, mark as u64)
 }
 
 // The refusal, and the answer's lists whole.
-fn put_answer(refusal: u64, numbers: [u64; 3], marks: [u8; 3]) {
-    put::word(refusal);
-    put_mark(marks[0]);
-    put::next(numbers[0]);
-    put_mark(marks[1]);
-    put::next(numbers[1]);
-    put_mark(marks[2]);
-    put::next(numbers[2]);
+fn put_answer<W: Write>(
+    to: &mut W,
+    refusal: u64,
+    numbers: [u64; 3],
+    marks: [u8; 3],
+) -> io::Result<()> {
+    put::word(to, refusal)?;
+    put_mark(to, marks[0])?;
+    put::next(to, numbers[0])?;
+    put_mark(to, marks[1])?;
+    put::next(to, numbers[1])?;
+    put_mark(to, marks[2])?;
+    put::next(to, numbers[2])
 }
 
 // The places are the scratch list's.
-fn put_rates(
+fn put_rates<W: Write>(
+    to: &mut W,
     s: FeeHistory,
     places: u64,
     heights: &[u32; 2304],
@@ -296,7 +323,7 @@ fn put_rates(
     hurdles: &mut [u64; 2304],
     befores: &mut [f64; 4608],
     aheads: &mut [u64; 4608],
-) -> FeeHistory {
+) -> io::Result<FeeHistory> {
     let mut scratch = [0u64; 2304];
     let z = replay_lines::at_most(places, &scratch);
     let mut out_numbers = [77u64; 3];
@@ -314,12 +341,13 @@ fn put_rates(
         &mut out_marks,
     );
     let outcome = r.outcome;
-    put_answer(refusal_number(outcome), out_numbers, out_marks);
-    r.state
+    put_answer(to, refusal_number(outcome), out_numbers, out_marks)?;
+    Ok(r.state)
 }
 
 // Fresh rates, then kept ones.
-fn put_both(
+fn put_both<W: Write>(
+    to: &mut W,
     s: FeeHistory,
     places: u64,
     heights: &[u32; 2304],
@@ -329,19 +357,27 @@ fn put_both(
     hurdles: &mut [u64; 2304],
     befores: &mut [f64; 4608],
     aheads: &mut [u64; 4608],
-) {
+) -> io::Result<()> {
     let fresh = put_rates(
-        s, places, heights, marks, rates, sizes, hurdles, befores, aheads,
-    );
-    put::space();
+        to, s, places, heights, marks, rates, sizes, hurdles, befores, aheads,
+    )?;
+    put::space(to)?;
     put_rates(
-        fresh, places, heights, marks, rates, sizes, hurdles, befores, aheads,
-    );
-    put::newline();
+        to, fresh, places, heights, marks, rates, sizes, hurdles, befores, aheads,
+    )?;
+    put::newline(to)
 }
 
 // Opens a history over memory of its own and calls it. A question of rates has places of a scratch list.
-fn replay(budget: u64, targets: &[u32], capacity: usize, calls: &[u64], rated: bool, places: u64) {
+fn replay<W: Write>(
+    to: &mut W,
+    budget: u64,
+    targets: &[u32],
+    capacity: usize,
+    calls: &[u64],
+    rated: bool,
+    places: u64,
+) -> io::Result<()> {
     let mut heights = [0u32; 2304];
     let mut marks = [0u8; 2304];
     let mut rates = [0u64; 2304];
@@ -374,6 +410,7 @@ fn replay(budget: u64, targets: &[u32], capacity: usize, calls: &[u64], rated: b
     if rated {
         let s = after.state;
         put_both(
+            to,
             s,
             places,
             &heights,
@@ -383,64 +420,66 @@ fn replay(budget: u64, targets: &[u32], capacity: usize, calls: &[u64], rated: b
             &mut hurdles,
             &mut befores,
             &mut aheads,
-        );
-        return;
+        )?;
+        return Ok(());
     }
-    put_replayed(after, &heights, &marks, &rates, &sizes, &kept, &bytes);
+    put_replayed(to, after, &heights, &marks, &rates, &sizes, &kept, &bytes)
 }
 
 fn first(calls: &[u64; 4610], n: usize) -> &[u64] {
     replay_lines::part(calls, 0, n)
 }
 
-fn calls(words: &[u64]) {
+fn calls<W: Write>(to: &mut W, words: &[u64]) -> io::Result<()> {
     let mut targets = [0u32; 17];
     let n = replay_lines::copy_u32(replay_lines::list(words, 1), &mut targets);
     let targets = &targets[..n];
     let from = replay_lines::after_list(words, 1);
     let k = replay_lines::at_most(word_at(words, from), words);
     let calls = replay_lines::part(words, from + 1, 2 * k);
-    replay(word_at(words, 0), targets, 24, calls, false, 0);
+    replay(to, word_at(words, 0), targets, 24, calls, false, 0)
 }
 
-fn rates(words: &[u64]) {
+fn rates<W: Write>(to: &mut W, words: &[u64]) -> io::Result<()> {
     let mut targets = [0u32; 2];
     replay_lines::copy_u32(replay_lines::part(words, 6, 2), &mut targets);
     let mut calls = [0u64; 4610];
     let n = generated(words, &mut calls);
     replay(
+        to,
         u64::MAX,
         &targets,
         2304,
         first(&calls, n),
         true,
         word_at(words, 9),
-    );
+    )
 }
 
-fn answer(line: &[u8]) {
+fn answer<W: Write>(to: &mut W, line: &[u8]) -> io::Result<()> {
     let name = replay_lines::name(line);
     let mut words = [0u64; 512];
     replay_lines::words(line, &mut words);
-    if check::same(name, b"calls") {
-        calls(&words);
-    } else if check::same(name, b"rates") {
-        rates(&words);
-    } else {
-        put::unknown();
+    match name {
+        b"calls" => calls(to, &words),
+        b"rates" => rates(to, &words),
+        _ => put::unknown(to),
     }
 }
 
-fn answer_all(lines: &[u8]) {
+fn answer_all<W: Write>(to: &mut W, lines: &[u8]) -> io::Result<()> {
     let mut at: usize = 0;
     while at < lines.len() {
-        answer(replay_lines::line(lines, at));
+        answer(to, replay_lines::line(lines, at))?;
         at = replay_lines::next_line(lines, at);
     }
+    Ok(())
 }
 
-fn main() {
-    let mut lines = io::large_buffer();
-    let n = io::read_full(STDIN_FILENO, &mut lines);
-    answer_all(&lines[..n]);
+fn main(rt: HostRuntime) -> io::Result<()> {
+    let mut lines = Vec::new(rt.alloc());
+    rt.reader().read_to_end(&mut lines)?;
+    let mut to = BufWriter::new(rt.alloc(), io::writer(&rt))?;
+    answer_all(&mut to, &lines)?;
+    to.flush()
 }

@@ -5,9 +5,10 @@
 // whole numbers.
 #![tactic(auto)]
 
-use libc::STDIN_FILENO;
 use rbitcoin_mempool::fee_flow::FeeFlowMeter;
 use replay_lines::{bits_of, digests, put, word_at};
+use std::io;
+use std::io::{BufWriter, Read, Write};
 
 // The bit patterns of the rates.
 fn digest(m: FeeFlowMeter) -> u64 {
@@ -25,13 +26,13 @@ fn whole_digest(rates: [u64; 402]) -> u64 {
     digests::digest_u64(0, &rates)
 }
 
-fn put_meter(m: FeeFlowMeter) {
-    put::word(bits_of(m.full()));
-    put::next(bits_of(m.admitted_wu));
-    put::next(m.last);
-    put::next(digest(m));
-    put::next(whole_digest(m.rates()));
-    put::newline();
+fn put_meter<W: Write>(to: &mut W, m: FeeFlowMeter) -> io::Result<()> {
+    put::word(to, bits_of(m.full()))?;
+    put::next(to, bits_of(m.admitted_wu))?;
+    put::next(to, m.last)?;
+    put::next(to, digest(m))?;
+    put::next(to, whole_digest(m.rates()))?;
+    put::newline(to)
 }
 
 // A read or an admission, four words.
@@ -54,26 +55,30 @@ fn replay(words: &[u64]) -> FeeFlowMeter {
     m
 }
 
-fn answer(line: &[u8]) {
-    if check::same(replay_lines::name(line), b"meter") {
-        let mut words = [0u64; 512];
-        replay_lines::words(line, &mut words);
-        put_meter(replay(&words));
-        return;
+fn answer<W: Write>(to: &mut W, line: &[u8]) -> io::Result<()> {
+    match replay_lines::name(line) {
+        b"meter" => {
+            let mut words = [0u64; 512];
+            replay_lines::words(line, &mut words);
+            put_meter(to, replay(&words))
+        }
+        _ => put::unknown(to),
     }
-    put::unknown();
 }
 
-fn answer_all(lines: &[u8]) {
+fn answer_all<W: Write>(to: &mut W, lines: &[u8]) -> io::Result<()> {
     let mut at: usize = 0;
     while at < lines.len() {
-        answer(replay_lines::line(lines, at));
+        answer(to, replay_lines::line(lines, at))?;
         at = replay_lines::next_line(lines, at);
     }
+    Ok(())
 }
 
-fn main() {
-    let mut lines = io::large_buffer();
-    let n = io::read_full(STDIN_FILENO, &mut lines);
-    answer_all(&lines[..n]);
+fn main(rt: HostRuntime) -> io::Result<()> {
+    let mut lines = Vec::new(rt.alloc());
+    rt.reader().read_to_end(&mut lines)?;
+    let mut to = BufWriter::new(rt.alloc(), io::writer(&rt))?;
+    answer_all(&mut to, &lines)?;
+    to.flush()
 }

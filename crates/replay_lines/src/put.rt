@@ -1,56 +1,55 @@
-// Writing answers to standard output.
+// Writing answers to a writer.
 use crate::bits_of;
-use libc::STDOUT_FILENO;
+use std::io;
+use std::io::Write;
 
-pub fn word(n: u64) {
-    io::print_hex(STDOUT_FILENO, n, 16);
+pub fn word<W: Write>(to: &mut W, n: u64) -> io::Result<()> {
+    write!(to, "{n:016x}")
 }
 
-pub fn space() {
-    io::write_all(STDOUT_FILENO, b" ");
+pub fn space<W: Write>(to: &mut W) -> io::Result<()> {
+    to.write_all(b" ")
 }
 
 // After a space.
-pub fn next(n: u64) {
-    space();
-    word(n);
+pub fn next<W: Write>(to: &mut W, n: u64) -> io::Result<()> {
+    space(to)?;
+    word(to, n)
 }
 
-pub fn newline() {
-    io::write_all(STDOUT_FILENO, b"\n");
+pub fn newline<W: Write>(to: &mut W) -> io::Result<()> {
+    to.write_all(b"\n")
 }
 
 // A line of one word.
-pub fn only(n: u64) {
-    word(n);
-    newline();
+pub fn only<W: Write>(to: &mut W, n: u64) -> io::Result<()> {
+    word(to, n)?;
+    newline(to)
 }
 
 // A line of one float.
-pub fn float(x: f64) {
+pub fn float<W: Write>(to: &mut W, x: f64) -> io::Result<()> {
     if x != x {
-        io::write_all(STDOUT_FILENO, b"nan\n");
-        return;
+        return to.write_all(b"nan\n");
     }
-    only(bits_of(x));
+    only(to, bits_of(x))
 }
 
 // A rate that may be refused: the refusal's number, the mark and the rate.
-pub fn fields(refusal: u64, mark: u64, rate: u64) {
-    word(refusal);
-    next(mark);
-    next(rate);
+pub fn fields<W: Write>(to: &mut W, refusal: u64, mark: u64, rate: u64) -> io::Result<()> {
+    word(to, refusal)?;
+    next(to, mark)?;
+    next(to, rate)
 }
 
-pub fn list(list: &[u64]) {
-    word(list.len() as u64);
-    let mut i: usize = 0;
-    while i < list.len() {
-        next(list[i]);
-        i += 1;
+pub fn list<W: Write>(to: &mut W, list: &[u64]) -> io::Result<()> {
+    word(to, list.len() as u64)?;
+    for n in list {
+        next(to, *n)?;
     }
+    Ok(())
 }
 
-pub fn unknown() {
-    io::write_all(STDOUT_FILENO, b"unknown\n");
+pub fn unknown<W: Write>(to: &mut W) -> io::Result<()> {
+    to.write_all(b"unknown\n")
 }

@@ -8,38 +8,39 @@
 ghost use Rattle.std.specs.Prelude.{◌≤◌, length};
 ghost use Rattle.io.specs.Counts.{IsPrefixLen};
 
-use libc::STDIN_FILENO;
 use rbitcoin_mempool::answer::{CountAnswer, Outcome, RateAnswer};
 use rbitcoin_mempool::fee_analog;
 use rbitcoin_mempool::fee_analog::{AnalogHistory, Update};
 use replay_lines::digests::mix;
 use replay_lines::{digests, float_of, put, word_at};
+use std::io;
+use std::io::{BufWriter, Read, Write};
 
-fn put_rate(answer: RateAnswer) {
+fn put_rate<W: Write>(to: &mut W, answer: RateAnswer) -> io::Result<()> {
     match answer {
-        RateAnswer::Found(rate) => put::fields(0, 1, rate),
-        RateAnswer::Nothing => put::fields(0, 0, 0),
-        RateAnswer::Refused(number) => put::fields(number as u64, 0, 0),
+        RateAnswer::Found(rate) => put::fields(to, 0, 1, rate),
+        RateAnswer::Nothing => put::fields(to, 0, 0, 0),
+        RateAnswer::Refused(number) => put::fields(to, number as u64, 0, 0),
     }
 }
 
-fn median(words: &[u64]) {
-    put_rate(fee_analog::lower_median(replay_lines::list(words, 0)));
-    put::newline();
+fn median<W: Write>(to: &mut W, words: &[u64]) -> io::Result<()> {
+    put_rate(to, fee_analog::lower_median(replay_lines::list(words, 0)))?;
+    put::newline(to)
 }
 
 // The quantile, and the list as it is left.
-fn put_quantile(outcomes: &mut [u64], confidence: f64) {
-    put_rate(fee_analog::log_quantile(outcomes, confidence));
-    put::space();
-    put::list(outcomes);
-    put::newline();
+fn put_quantile<W: Write>(to: &mut W, outcomes: &mut [u64], confidence: f64) -> io::Result<()> {
+    put_rate(to, fee_analog::log_quantile(outcomes, confidence))?;
+    put::space(to)?;
+    put::list(to, outcomes)?;
+    put::newline(to)
 }
 
-fn quantile(words: &[u64]) {
+fn quantile<W: Write>(to: &mut W, words: &[u64]) -> io::Result<()> {
     let mut list = [0u64; 512];
     let n = replay_lines::copy_u64(replay_lines::list(words, 1), &mut list);
-    put_quantile(&mut list[..n], float_of(word_at(words, 0)));
+    put_quantile(to, &mut list[..n], float_of(word_at(words, 0)))
 }
 
 fn refusal_number(o: Outcome) -> u64 {
@@ -195,7 +196,7 @@ fn all_pairs(s: AnalogHistory, befores: &[f64], aheads: &[u64]) -> u64 {
     digest
 }
 
-fn windows(words: &[u64]) {
+fn windows<W: Write>(to: &mut W, words: &[u64]) -> io::Result<()> {
     let mut targets = [0u32; 17];
     let n = replay_lines::copy_u32(replay_lines::list(words, 0), &mut targets);
     let mut hurdles = [0u64; 24];
@@ -215,11 +216,11 @@ fn windows(words: &[u64]) {
         &mut aheads,
     );
     let s = after.state;
-    put::word(after.refusals);
-    put::next(s.count as u64);
-    put::next(hurdles_digest(s, &hurdles));
-    put::next(all_pairs(s, &befores, &aheads));
-    put::newline();
+    put::word(to, after.refusals)?;
+    put::next(to, s.count as u64)?;
+    put::next(to, hurdles_digest(s, &hurdles))?;
+    put::next(to, all_pairs(s, &befores, &aheads))?;
+    put::newline(to)
 }
 
 // The hurdles of a rate, and how many they are.
@@ -237,7 +238,7 @@ fn read_hurdles(words: &[u64], out: &mut [u64]) -> usize
     n
 }
 
-fn rate(words: &[u64]) {
+fn rate<W: Write>(to: &mut W, words: &[u64]) -> io::Result<()> {
     let mut from = [0u64; 2304];
     let n = read_hurdles(words, &mut from);
     let target = (word_at(words, 6) % 4294967296) as u32;
@@ -248,73 +249,77 @@ fn rate(words: &[u64]) {
     let opened = AnalogHistory::new(&targets, 2304, &hurdles, &befores, &aheads);
     let s = opened.state;
     let built = s.rebuild(&from[..n], &mut hurdles, &mut befores, &mut aheads);
-    put_scanned(built.state, target, words, &hurdles, &befores, &aheads);
+    put_scanned(to, built.state, target, words, &hurdles, &befores, &aheads)
 }
 
-fn put_scanned(
+fn put_scanned<W: Write>(
+    to: &mut W,
     s: AnalogHistory,
     target: u32,
     words: &[u64],
     hurdles: &[u64],
     befores: &[f64],
     aheads: &[u64],
-) {
+) -> io::Result<()> {
     let confidence = float_of(word_at(words, 7));
     let mut scratch = [0u64; 2304];
     let z = replay_lines::at_most(word_at(words, 8), &scratch);
-    put_rate(s.rate_sat_kvb(
-        target,
-        confidence,
-        hurdles,
-        befores,
-        aheads,
-        &mut scratch[..z],
-    ));
-    put::newline();
+    put_rate(
+        to,
+        s.rate_sat_kvb(
+            target,
+            confidence,
+            hurdles,
+            befores,
+            aheads,
+            &mut scratch[..z],
+        ),
+    )?;
+    put::newline(to)
 }
 
 // Answers a question of one number, and says whether the name was of one.
-fn of_number(name: &[u8], n: u64) -> bool {
-    if check::same(name, b"analog_lookback") {
-        put::only(fee_analog::analog_lookback((n % 4294967296) as u32) as u64);
-    } else if check::same(name, b"ln_rate") {
-        put::only(num::float::abs_bits(fee_analog::ln_rate(n)));
-    } else {
-        return false;
+fn of_number<W: Write>(to: &mut W, name: &[u8], n: u64) -> io::Result<bool> {
+    match name {
+        b"analog_lookback" => put::only(
+            to,
+            fee_analog::analog_lookback((n % 4294967296) as u32) as u64,
+        )?,
+        b"ln_rate" => put::only(to, num::float::abs_bits(fee_analog::ln_rate(n)))?,
+        _ => return Ok(false),
     }
-    true
+    Ok(true)
 }
 
-fn answer(line: &[u8]) {
+fn answer<W: Write>(to: &mut W, line: &[u8]) -> io::Result<()> {
     let name = replay_lines::name(line);
     let mut words = [0u64; 512];
     replay_lines::words(line, &mut words);
-    if of_number(name, words[0]) {
-        return;
+    if of_number(to, name, words[0])? {
+        return Ok(());
     }
-    if check::same(name, b"lower_median") {
-        median(&words);
-    } else if check::same(name, b"log_quantile") {
-        quantile(&words);
-    } else if check::same(name, b"windows") {
-        windows(&words);
-    } else if check::same(name, b"rate_sat_kvb") {
-        rate(&words);
-    } else {
-        put::unknown();
+    match name {
+        b"lower_median" => median(to, &words),
+        b"log_quantile" => quantile(to, &words),
+        b"windows" => windows(to, &words),
+        b"rate_sat_kvb" => rate(to, &words),
+        _ => put::unknown(to),
     }
 }
 
-fn answer_all(lines: &[u8]) {
+fn answer_all<W: Write>(to: &mut W, lines: &[u8]) -> io::Result<()> {
     let mut at: usize = 0;
     while at < lines.len() {
-        answer(replay_lines::line(lines, at));
+        answer(to, replay_lines::line(lines, at))?;
         at = replay_lines::next_line(lines, at);
     }
+    Ok(())
 }
 
-fn main() {
-    let mut lines = io::large_buffer();
-    let n = io::read_full(STDIN_FILENO, &mut lines);
-    answer_all(&lines[..n]);
+fn main(rt: HostRuntime) -> io::Result<()> {
+    let mut lines = Vec::new(rt.alloc());
+    rt.reader().read_to_end(&mut lines)?;
+    let mut to = BufWriter::new(rt.alloc(), io::writer(&rt))?;
+    answer_all(&mut to, &lines)?;
+    to.flush()
 }

@@ -1,0 +1,10 @@
+-- `replay_lines::copy_u32` meets its contract: each turn puts one element. Assumes nothing.
+use Rattle.std.proofs.Common.{◌≡◌, ◌-◌, ◌≤◌, map, length, take}
+use Rattle.replay_lines.specs.Lists.{over, low32}
+use Rattle.replay_lines.proofs.copy_u32.Given as goal
+
+abbrev pub invariant-loop-i : goal.invariant-loop-i
+invariant-loop-i l = (l.i ≤ l.n) × (length l.out ≡ length l.initial.out) × (l.out ≡ over (take l.i (map low32 l.list)) l.initial.out)
+
+abbrev pub decreases-loop-i : goal.decreases-loop-i
+decreases-loop-i l = l.n - l.i
