@@ -1,6 +1,6 @@
 -- A blend v * a + (1 - v) * b of two whole numbers up to 2 ^ 50, worked out in binary64 and rounded to a whole number: it lies less than 1 from the exact value, and is at most 2 ^ 50.
 -- Assumes nothing.
-use Rattle.std.proofs.Common.{◌≡◌, ℕ, ◌+◌, ◌-◌, ◌*◌, ◌^◌, ◌<◌, ◌≤◌, false, pos, sym, refl, ap, ◌∙◌, subst, le_trans, le_of_eq, lt_of_lt_of_le, lt_of_le_of_lt, mul-le-mul_right, add-mul, add-sub_of_le, mul-le-mul, lt_of_mul-lt-mul_right, mul-le-mul_left, mul-pos, one-mul, mul-one, le_of_mul-le-mul_right, sub-le, arith, lit<, lit≤}
+use Rattle.std.proofs.Common.{◌≡◌, ℕ, ◌+◌, ◌-◌, ◌*◌, ◌^◌, ◌<◌, ◌≤◌, false, sym, refl, ap, ◌∙◌, subst, le_trans, le_of_eq, lt_of_lt_of_le, lt_of_le_of_lt, mul-le-mul_right, add-mul, add-sub_of_le, mul-le-mul, lt_of_mul-lt-mul_right, mul-le-mul_left, mul-pos, one-mul, mul-one, le_of_mul-le-mul_right, sub-le, arith, lit<, lit≤}
 use lib.Ieee.{Float, binary64, round, add, sub, mul}
 use lib.Ieee.Exact.{HasValue}
 use Rattle.num.specs.Float.{of_u64}

@@ -8,7 +8,6 @@ use Rattle.rbitcoin_mempool.specs.Median.{analog_lookback}
 use Rattle.rbitcoin_mempool.specs.Pairs.{Pair, ahead_at, ahead_of, before_at, pair_at, pairs_of, windows_in}
 use Rattle.rbitcoin_mempool.specs.Reached.{pop_back_in, pop_front_in}
 use Rattle.rbitcoin_mempool.specs.Windows.{WellStored, Windows, at, free_of, held, held_in, moved_to, popped, push_back_of, push_front_of, push_refusal_of, room_back, room_front, state_refusal, store_back, store_front, stored_at, stored_pairs, target_at, windows, with_pairs}
-use Rattle.rbitcoin_mempool.proofs.Neighbors.{few}
 use Rattle.rbitcoin_mempool.proofs.Parts.{ahead_windowed, before_windowed, held_all-back, held_all_front, held_back, held_front, held_moved, length-held}
 use Rattle.rbitcoin_mempool.proofs.Pushes.{OpenAt, ValidIn, each-length, moved_valid, push-done, push-refused, room_open, store_valid}
 use Rattle.rbitcoin_mempool.proofs.Puts.{ahead-least}

@@ -5,7 +5,6 @@ use lib.Ieee.{Float, nan, inf, fin, binary64, up, down, mul, lt, eq, le, is_nan}
 use Rattle.num.specs.Float.{of_u64, max_of}
 use Rattle.slices.specs.Search.{seek}
 use Rattle.rbitcoin_mempool.specs.Edges.{edge_at, first_above, bucket_index}
-use Rattle.rbitcoin_mempool.specs.declared.fee_flow.FeeFlowMeter.{FeeFlowMeter}
 use Rattle.rbitcoin_mempool.specs.Meter.{least_secs, gap, share_left, decayed, new_meter}
 
 -- every rate of a new meter is 0

@@ -1,7 +1,6 @@
 -- Laws of the held hurdles and of the pairs of a list of hurdles, as hurdles come and go at either end. Assumes nothing.
 use Rattle.std.proofs.Common.{◌≡◌, ℕ, suc, ◌+◌, ◌-◌, ◌<◌, ◌≤◌, List, [], ◌∷◌, ◌++◌, length, get_or, take, drop, set, sym, refl, ap, ◌∙◌, add-one, arith, length-append, length-drop, length-set, length-take-le, drop-cons, take-suc, get_or-set_same, take-suc-set, drop-set-lt}
 use lib.Seq.{take-append-le, drop-append-le, drop-set-add}
-use Rattle.num.specs.Wide.{value}
 use Rattle.slices.specs.Least.{least_of}
 use Rattle.slices.specs.Lists.{moved}
 use Rattle.slices.proofs.Runs.{moved_part}

@@ -1,7 +1,6 @@
 -- Laws of a new window's pair: where it lies, and that the parts of memory that the code reads are parts of the held hurdles. Assumes nothing.
 use Rattle.std.proofs.Common.{◌≡◌, ℕ, zero, suc, ◌+◌, ◌-◌, ◌*◌, ◌<◌, ◌≤◌, Bool, true, false, List, [], ◌∷◌, length, take, drop, set, sym, refl, ap, ◌∙◌, arith, take-take, drop-drop, le-leb}
 use borrow.Author.Tests.{lt-leb}
-use Rattle.num.specs.Wide.{value}
 use Rattle.slices.specs.Least.{least_of}
 use Rattle.rbitcoin_mempool.specs.Median.{analog_lookback, ln_rate, lookback_part, median_of}
 use Rattle.rbitcoin_mempool.specs.Pairs.{ahead_at, ahead_of, before_at}

@@ -3,7 +3,6 @@ use Rattle.std.proofs.Common.{◌≡◌, ℕ, ◌+◌, ◌<◌, ◌≤◌, Bool,
 use Rattle.rbitcoin_mempool.specs.Reached.{SetUpAs}
 use Rattle.rbitcoin_mempool.specs.Windows.{WellStored, Windows, emptied, held, held_in, push_all, push_back_of, push_refusal_of, rebuild_refusal_of, rebuilt_of}
 use Rattle.rbitcoin_mempool.proofs.Kept.{Good, empty_good, good-stored, push-back_good}
-use Rattle.rbitcoin_mempool.proofs.Neighbors.{few}
 use Rattle.rbitcoin_mempool.proofs.Parts.{length-held}
 use Rattle.rbitcoin_mempool.proofs.Pushes.{ValidIn}
 use Rattle.rbitcoin_mempool.proofs.Refusals.{accepts, rebuild-accepted, zero_or_not}

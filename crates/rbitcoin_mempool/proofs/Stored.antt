@@ -1,7 +1,6 @@
 -- Half of the pairs, in one list of memory: what is stored at a window's place is the window's value. Each operation keeps that. Stated once for both halves. Assumes nothing.
 use Rattle.std.proofs.Common.{◌≡◌, ℕ, suc, ◌+◌, ◌-◌, ◌*◌, ◌<◌, ◌≤◌, Bool, true, false, leb, ◌⊎◌, List, [], ◌∷◌, ◌++◌, length, get_or, sym, refl, ap, ◌∙◌, inl, inr, ⊎_elim, eq-or-lt_of_le, arith, length-set, get_or-set_other, get_or-set_same, leb-false, leb-true}
 use Rattle.num.specs.Wide.{value}
-use Rattle.slices.specs.Sorted.{below}
 use Rattle.slices.proofs.Runs.{length_moved, moved-above, moved-below, moved_in}
 use Rattle.rbitcoin_mempool.specs.Median.{analog_lookback}
 use Rattle.rbitcoin_mempool.specs.Pairs.{ahead_of}

@@ -15,7 +15,7 @@ use Rattle.rbitcoin_mempool.proofs.Views.{push-back-set-up}
 use Rattle.rbitcoin_net.specs.declared.fee_history.HistoricalFeeBlock.{HistoricalFeeBlock}
 use Rattle.rbitcoin_net.specs.declared.fee_history.FeeHistory.{FeeHistory}
 use Rattle.rbitcoin_net.specs.History.{hurdle_of}
-use Rattle.rbitcoin_net.specs.Lent.{Rows, rows, Hashes, hashes, Lent, lent, windows_of, lent_refusal}
+use Rattle.rbitcoin_net.specs.Lent.{Rows, rows, Hashes, Lent, lent, windows_of, lent_refusal}
 use Rattle.rbitcoin_net.specs.Search.{bisect, place_of}
 use Rattle.rbitcoin_net.specs.Hashes.{hash_list, Room, hash_place}
 use Rattle.rbitcoin_net.specs.Cuts.{with_hashes, unkept, cut_at, drop_from}

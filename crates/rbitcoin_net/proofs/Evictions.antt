@@ -7,7 +7,7 @@ use lib.ListN.{get_or}
 use borrow.Author.Tests.{lt-ltb, le-ltb}
 use Rattle.slices.proofs.Runs.{length_moved}
 use Rattle.rbitcoin_mempool.specs.Windows.{pop_front_of}
-use Rattle.rbitcoin_net.specs.Lent.{Rows, Hashes, hashes, block_at}
+use Rattle.rbitcoin_net.specs.Lent.{Rows, Hashes, block_at}
 use Rattle.rbitcoin_net.specs.Search.{is_at}
 use Rattle.rbitcoin_net.specs.Hashes.{HashList, hash_list, Room, moved_hashes, hash_place, remove_at, remove_hash}
 use Rattle.rbitcoin_net.specs.Cuts.{with_rows, with_sums, with_hashes, forget_row}

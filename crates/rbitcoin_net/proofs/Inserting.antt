@@ -16,7 +16,7 @@ use Rattle.rbitcoin_net.specs.declared.fee_history.HistoricalFeeBlock.{Historica
 use Rattle.rbitcoin_net.specs.declared.fee_history.FeeHistory.{FeeHistory}
 use Rattle.rbitcoin_net.specs.declared.fee_history.BlockHash.{BlockHash}
 use Rattle.rbitcoin_net.specs.History.{hurdle_of}
-use Rattle.rbitcoin_net.specs.Lent.{Rows, rows, Hashes, hashes}
+use Rattle.rbitcoin_net.specs.Lent.{Rows, rows, Hashes}
 use Rattle.rbitcoin_net.specs.Search.{bisect}
 use Rattle.rbitcoin_net.specs.Hashes.{HashList, hash_list, Room, Whole32, hash_of, hash_place, note_hash_in}
 use Rattle.rbitcoin_net.specs.Cuts.{with_hashes, unkept}

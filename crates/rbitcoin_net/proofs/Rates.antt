@@ -21,7 +21,7 @@ use Rattle.rbitcoin_mempool.proofs.Reach.{tracked-rate}
 use Rattle.rbitcoin_mempool.proofs.Rebuilds.{rebuild-done, rebuild_good, rebuilt-held}
 use Rattle.rbitcoin_mempool.proofs.Refusals.{rebuilds, refusing}
 use Rattle.rbitcoin_net.specs.History.{found, confidence_of, rate_for, hurdles_of, rebuilt, answered, keep, rates_answer, after_rates, set_rates, set_stale, set_hurdles}
-use Rattle.rbitcoin_net.specs.Lent.{Rows, Hashes, lent, row_at, held_rows, held_hashes, kept_rates, view, Sound}
+use Rattle.rbitcoin_net.specs.Lent.{Rows, Hashes, row_at, held_rows, held_hashes, kept_rates, view, Sound}
 use Rattle.rbitcoin_net.specs.Rates.{Rated, rated, windows_with, lent_to, refreshed, refreshed_in, rate_from, slots, keeping, answered_from, rates_in, answers_in, Outputs, refusal_for, AnswersRates}
 use Rattle.rbitcoin_net.specs.Readers.{wrote}
 use Rattle.rbitcoin_net.specs.declared.fee_history.FeeHistory.{FeeHistory}

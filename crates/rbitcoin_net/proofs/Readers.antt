@@ -14,7 +14,7 @@ use Rattle.rbitcoin_mempool.specs.Counted.{count, refused}
 use Rattle.rbitcoin_mempool.specs.Rates.{mark_of, number_of, given}
 use Rattle.rbitcoin_mempool.proofs.Scans.{count-refused, count-given}
 use Rattle.rbitcoin_net.specs.declared.fee_history.FeeHistory.{FeeHistory}
-use Rattle.rbitcoin_net.specs.Lent.{Rows, Hashes, hashes, row_at, held_rows, hash_at, hashes_in, held_hashes}
+use Rattle.rbitcoin_net.specs.Lent.{Rows, Hashes, row_at, held_rows, hash_at, hashes_in, held_hashes}
 use Rattle.rbitcoin_net.specs.Readers.{wrote, key_of, mark_in, number_in, bytes_in, entries_refusal_of, Entries, bytes_of, recent_refusal_of, RecentHashes}
 use Rattle.rbitcoin_net.proofs.Tables.{table-add}
 

@@ -1,5 +1,4 @@
 -- `quote` meets its contract, from the contracts of the loop and of the lookup and demand 3 about their definitions. Assumes nothing.
-use borrow.Author.Rules.{rules}
 use native.Mathlib.Omega.{arith}
 use mathlib.Core.Path.{◌≡◌, refl, sym, ap, ◌∙◌, subst, subst₂}
 use mathlib.Core.Option.{Option, none, some}

@@ -1,5 +1,4 @@
 -- `exports::capacity::juleyomu_percentile_sat` meets its contract: the fields are those of the answer. Assumes nothing.
-use borrow.Author.Rules.{rules}
 use mathlib.Core.Path.{subst}
 use Rattle.rbitcoin_mempool.specs.Answer.{Answer}
 use Rattle.exports.specs.Fields.{Fields}

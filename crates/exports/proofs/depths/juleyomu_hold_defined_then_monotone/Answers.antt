@@ -1,5 +1,4 @@
 -- `exports::depths::juleyomu_hold_defined_then_monotone` meets its contract: the number is that of the outcome. Assumes nothing.
-use borrow.Author.Rules.{rules}
 use mathlib.Core.Path.{ap, ◌∙◌}
 use Rattle.rbitcoin_mempool.specs.Rates.{number_of}
 use Rattle.exports.proofs.Verdicts.{number_same}

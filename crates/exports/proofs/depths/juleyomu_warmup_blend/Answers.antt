@@ -1,5 +1,4 @@
 -- `exports::depths::juleyomu_warmup_blend` meets its contract: the rate is marked as the answer is. Assumes nothing.
-use borrow.Author.Rules.{rules}
 use mathlib.Core.Path.{ap, ◌∙◌}
 use Rattle.rbitcoin_mempool.specs.Rates.{number_of, mark_of}
 use Rattle.exports.proofs.depths.juleyomu_warmup_blend.Goals as goal

@@ -1,5 +1,4 @@
 -- `exports::history::answered_history` meets its contract: the parts are those of the state. Assumes nothing.
-use borrow.Author.Rules.{rules}
 use Rattle.exports.proofs.history.answered_history.Goals as goal
 
 pub returns : goal.returns

@@ -1,5 +1,4 @@
 -- `exports::history::juleyomu_history_get` meets its contract: the fields are those of the answer. Assumes nothing.
-use borrow.Author.Rules.{rules}
 use mathlib.Core.Path.{subst}
 use Rattle.rbitcoin_net.specs.Search.{Looked}
 use Rattle.exports.specs.Blocks.{BlockIs}

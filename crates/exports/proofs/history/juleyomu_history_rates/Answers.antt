@@ -1,5 +1,4 @@
 -- `exports::history::juleyomu_history_rates` meets its contract: the fields are those of the answer. Assumes nothing.
-use borrow.Author.Rules.{rules}
 use mathlib.Core.Path.{ap, sym, ◌∙◌}
 use Rattle.exports.proofs.Verdicts.{verdict-back}
 use Rattle.rbitcoin_mempool.specs.Outcome.{verdict_of}

@@ -1,5 +1,4 @@
 -- `exports::history::juleyomu_history_recent_hashes` meets its contract: the fields are those of the answer. Assumes nothing.
-use borrow.Author.Rules.{rules}
 use mathlib.Core.Path.{ap, sym}
 use Rattle.exports.proofs.Verdicts.{counted_back}
 use Rattle.exports.specs.Counts.{count_number}

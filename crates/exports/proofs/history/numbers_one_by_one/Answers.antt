@@ -1,5 +1,4 @@
 -- `exports::history::numbers_one_by_one` meets its contract: sixteen elements are the whole array. Assumes nothing.
-use borrow.Author.Rules.{rules}
 use mathlib.Core.Path.{◌≡◌, sym}
 use lib.ListN.{length}
 use Rattle.exports.proofs.OneByOne.{from, from_is}

@@ -1,5 +1,4 @@
 -- `exports::windows::answered` meets its contract: the elements are those of the targets. Assumes nothing.
-use borrow.Author.Rules.{rules}
 use Rattle.exports.proofs.windows.answered.Goals as goal
 
 pub returns : goal.returns

@@ -1,5 +1,4 @@
 -- `exports::windows::juleyomu_windows_pairs` meets its contract: the fields are those of the answer. Assumes nothing.
-use borrow.Author.Rules.{rules}
 use mathlib.Core.Path.{ap, ◌∙◌}
 use Rattle.exports.specs.Counts.{count_refusal, count_number}
 use Rattle.exports.proofs.windows.juleyomu_windows_pairs.Goals as goal

@@ -1,5 +1,4 @@
 -- `exports::windows::juleyomu_windows_pop_back` meets its contract: the fields are those of the answer. Assumes nothing.
-use borrow.Author.Rules.{rules}
 use mathlib.Core.Path.{◌∙◌}
 use Rattle.exports.proofs.Verdicts.{number_is}
 use Rattle.exports.proofs.windows.juleyomu_windows_pop_back.Goals as goal

@@ -1,5 +1,5 @@
 -- `fee_est::capacity::effective_capacity_wu` meets its contract. Assumes nothing.
-use Rattle.std.proofs.Common.{rules, le-leb}
+use Rattle.std.proofs.Common.{le-leb}
 use borrow.Author.Tests.{lt-leb}
 use Rattle.rbitcoin_mempool.specs.Capacity.{effective_capacity_wu}
 use Rattle.rbitcoin_mempool.proofs.fee_est.capacity.effective_capacity_wu.Goals as goal

@@ -1,5 +1,5 @@
 -- `fee_est::capacity::fits_with` meets its contract. Assumes nothing.
-use Rattle.std.proofs.Common.{ℕ, leb, get_or, ap, ◌∙◌, arith, rules}
+use Rattle.std.proofs.Common.{ℕ, leb, get_or, ap, ◌∙◌, arith}
 use Rattle.num.specs.Word.{saturating_add}
 use Rattle.rbitcoin_mempool.specs.Capacity.{stressed_wu, effective_capacity_wu, fits_with}
 use Rattle.rbitcoin_mempool.proofs.Edges.{first_bucket-lt}

@@ -1,7 +1,7 @@
 -- `fee_est::capacity::inflow_suffix_wu` meets its contract: the loop keeps `Summed`. Assumes nothing.
-use Rattle.std.proofs.Common.{◌≡◌, ℕ, ◌+◌, ◌-◌, get_or, ap, ◌∙◌, arith, rules}
+use Rattle.std.proofs.Common.{◌≡◌, ℕ, ◌+◌, ◌-◌, get_or, ap, ◌∙◌, arith}
 use Rattle.num.specs.Word.{saturating_add}
-use Rattle.rbitcoin_mempool.proofs.Capacity.{Summed, summed-start, summed-step, summed_end}
+use Rattle.rbitcoin_mempool.proofs.Capacity.{summed-start, summed-step, summed_end}
 use Rattle.rbitcoin_mempool.proofs.fee_est.capacity.inflow_suffix_wu.Goals as goal
 
 pub loop-i-init : goal.loop-i-init

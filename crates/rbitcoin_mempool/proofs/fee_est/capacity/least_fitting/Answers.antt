@@ -1,5 +1,5 @@
 -- `fee_est::capacity::least_fitting` meets its contract: the loop has the answer of the candidates from i on. Assumes nothing.
-use Rattle.std.proofs.Common.{◌≡◌, ℕ, suc, ◌-◌, ◌≤◌, Bool, length, drop, sym, ap, ◌∙◌, subst, arith, rules}
+use Rattle.std.proofs.Common.{◌≡◌, ℕ, suc, ◌-◌, Bool, drop, sym, ap, ◌∙◌, subst, arith}
 use Rattle.rbitcoin_mempool.specs.Answer.{rate}
 use Rattle.rbitcoin_mempool.specs.Capacity.{fits_with, least_fitting}
 use Rattle.rbitcoin_mempool.proofs.Search.{so_far, search-start, search-fits, search-passes}

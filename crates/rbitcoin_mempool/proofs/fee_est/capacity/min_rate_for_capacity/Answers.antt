@@ -1,5 +1,5 @@
 -- `fee_est::capacity::min_rate_for_capacity` meets its contract. Assumes nothing.
-use Rattle.std.proofs.Common.{◌≡◌, ℕ, List, length, ap, ◌∙◌, arith, rules, eq-eqb, ne_eqb}
+use Rattle.std.proofs.Common.{◌≡◌, ℕ, List, length, ap, ◌∙◌, arith, eq-eqb, ne_eqb}
 use Rattle.rbitcoin_mempool.specs.Capacity.{inflow_suffix_wu, fits_with, fits, least_fitting, min_rate_for_capacity}
 use Rattle.rbitcoin_mempool.proofs.fee_est.capacity.min_rate_for_capacity.Goals as goal
 

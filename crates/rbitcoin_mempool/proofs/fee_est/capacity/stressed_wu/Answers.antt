@@ -1,5 +1,5 @@
 -- `fee_est::capacity::stressed_wu` meets its contract. Assumes nothing.
-use Rattle.std.proofs.Common.{false, pos, ap, ◌∙◌, rules, le-leb}
+use Rattle.std.proofs.Common.{false, pos, ap, ◌∙◌, le-leb}
 use lib.Ieee.{Float, fin, binary64, mul, of_bits}
 use borrow.Author.Tests.{lt-leb}
 use Rattle.num.specs.Float.{to_u64}

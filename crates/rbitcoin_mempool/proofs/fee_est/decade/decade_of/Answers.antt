@@ -1,6 +1,5 @@
 -- `fee_est::decade::decade_of` meets its contract. Assumes nothing.
 use Rattle.rbitcoin_mempool.proofs.Decade.{decade_in}
-use Rattle.std.proofs.Common.{rules}
 use Rattle.rbitcoin_mempool.proofs.fee_est.decade.decade_of.Goals as goal
 
 pub returns : goal.returns

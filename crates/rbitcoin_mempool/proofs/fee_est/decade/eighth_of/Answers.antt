@@ -1,5 +1,5 @@
 -- `fee_est::decade::eighth_of` meets its contract. Assumes nothing.
-use Rattle.std.proofs.Common.{arith, rules}
+use Rattle.std.proofs.Common.{arith}
 use lib.Count.{count_leading_zeros}
 use Rattle.rbitcoin_mempool.proofs.Decade.{Leads, leads}
 use Rattle.rbitcoin_mempool.proofs.fee_est.decade.eighth_of.Goals as goal

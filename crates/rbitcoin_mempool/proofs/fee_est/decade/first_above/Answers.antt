@@ -1,5 +1,5 @@
 -- `fee_est::decade::first_above` meets its contract. Assumes nothing.
-use Rattle.std.proofs.Common.{arith, rules}
+use Rattle.std.proofs.Common.{arith}
 use Rattle.rbitcoin_mempool.proofs.Decade.{above-none, above_all, fine_range, above_ranked}
 use Rattle.rbitcoin_mempool.proofs.fee_est.decade.first_above.Goals as goal
 

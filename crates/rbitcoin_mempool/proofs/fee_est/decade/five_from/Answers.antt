@@ -1,8 +1,8 @@
 -- `fee_est::decade::five_from` meets its contract: the test of each row is computed. Assumes nothing.
-use Rattle.std.proofs.Common.{refl, le_antisymm, arith}
+use Rattle.std.proofs.Common.{refl, arith}
 use Rattle.rbitcoin_mempool.specs.Edges.{series}
 use Rattle.rbitcoin_mempool.specs.Decade.{fine_edge}
-use Rattle.rbitcoin_mempool.proofs.Decade.{row_test, low_test, high_test, row_holds, beyond}
+use Rattle.rbitcoin_mempool.proofs.Decade.{row_test, low_test, high_test, row_holds}
 use Rattle.rbitcoin_mempool.proofs.fee_est.decade.five_from.Goals as goal
 
 pub returns-in-15 : goal.returns-in-15

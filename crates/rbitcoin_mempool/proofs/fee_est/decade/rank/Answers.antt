@@ -1,5 +1,5 @@
 -- `fee_est::decade::rank` meets its contract: the rank grows by each of the five. Assumes nothing.
-use Rattle.std.proofs.Common.{◌+◌, arith, rules}
+use Rattle.std.proofs.Common.{◌+◌, arith}
 use Rattle.rbitcoin_mempool.proofs.Decade.{rank-start, rank-next, rank_end}
 use Rattle.rbitcoin_mempool.proofs.fee_est.decade.rank.Goals as goal
 

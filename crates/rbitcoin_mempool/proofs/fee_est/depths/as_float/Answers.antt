@@ -1,5 +1,4 @@
 -- `fee_est::depths::as_float` meets its contract. Assumes nothing.
-use Rattle.std.proofs.Common.{rules}
 use lib.Ieee.{of_bits}
 use Rattle.num.proofs.WholeSum.{bits-number, bits_float}
 use Rattle.rbitcoin_mempool.proofs.fee_est.depths.as_float.Goals as goal

@@ -1,5 +1,5 @@
 -- `fee_est::depths::blend_by` meets its contract. Assumes nothing.
-use Rattle.std.proofs.Common.{Bool, cond, sym, ap, ◌∙◌, rules}
+use Rattle.std.proofs.Common.{Bool, cond, sym, ap, ◌∙◌}
 use mathlib.Core.Option.{none, some}
 use Rattle.rbitcoin_mempool.specs.declared.answer.Rate.{Rate}
 use Rattle.rbitcoin_mempool.specs.Rates.{given}

@@ -1,5 +1,5 @@
 -- `fee_est::depths::blend_sat_kvb` meets its contract. Assumes nothing.
-use Rattle.std.proofs.Common.{ℕ, sym, subst, arith, rules}
+use Rattle.std.proofs.Common.{ℕ, sym, subst, arith}
 use mathlib.Core.Option.{Option}
 use Rattle.rbitcoin_mempool.specs.Rates.{given}
 use Rattle.rbitcoin_mempool.specs.Exact.{Within, Both, exact_blend}

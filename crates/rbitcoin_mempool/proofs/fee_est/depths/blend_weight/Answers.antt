@@ -1,5 +1,5 @@
 -- `fee_est::depths::blend_weight` meets its contract. Assumes nothing.
-use Rattle.std.proofs.Common.{◌≡◌, sym, ap, ◌∙◌, subst, arith, rules}
+use Rattle.std.proofs.Common.{◌≡◌, sym, ap, ◌∙◌, subst, arith}
 use lib.Ieee.{Float, binary64, neg, sub, div, of_bits}
 use Rattle.num.specs.Exp.{exp_of}
 use Rattle.num.specs.Float.{of_u64}

@@ -1,5 +1,5 @@
 -- `fee_est::depths::blended` meets its contract. Assumes nothing.
-use Rattle.std.proofs.Common.{ap, ◌∙◌, rules}
+use Rattle.std.proofs.Common.{ap, ◌∙◌}
 use lib.Ieee.{Float, binary64, add, sub, mul, of_bits}
 use Rattle.num.specs.Float.{of_u64}
 use Rattle.num.specs.Round.{round_to_u64}

@@ -1,5 +1,5 @@
 -- `fee_est::depths::clamped_share` meets its contract. Assumes nothing.
-use Rattle.std.proofs.Common.{sym, ◌∙◌, rules}
+use Rattle.std.proofs.Common.{sym, ◌∙◌}
 use lib.Ieee.{of_bits}
 use Rattle.rbitcoin_mempool.specs.Depths.{clamped_share}
 use Rattle.rbitcoin_mempool.proofs.fee_est.depths.clamped_share.Goals as goal

@@ -1,5 +1,5 @@
 -- `fee_est::depths::cold_rate` meets its contract. Assumes nothing.
-use Rattle.std.proofs.Common.{sym, ap, ◌∙◌, rules}
+use Rattle.std.proofs.Common.{sym, ap, ◌∙◌}
 use Rattle.rbitcoin_mempool.specs.declared.answer.Rate.{Rate}
 use Rattle.rbitcoin_mempool.specs.Rates.{given}
 use Rattle.rbitcoin_mempool.specs.Depths.{cold_rate}

@@ -1,6 +1,5 @@
 -- `fee_est::depths::depth_rate_sat_kvb` meets its contract. Assumes nothing.
 use Rattle.rbitcoin_mempool.specs.Depths.{depth_rate_sat_kvb}
-use Rattle.std.proofs.Common.{rules}
 use Rattle.rbitcoin_mempool.proofs.fee_est.depths.depth_rate_sat_kvb.Goals as goal
 
 pub returns-then-flow_warm : goal.returns-then-flow_warm

@@ -1,5 +1,5 @@
 -- `fee_est::depths::floored_rate` meets its contract. Assumes nothing.
-use Rattle.std.proofs.Common.{sym, ◌∙◌, rules}
+use Rattle.std.proofs.Common.{sym, ◌∙◌}
 use Rattle.rbitcoin_mempool.proofs.fee_est.depths.floored_rate.Goals as goal
 
 pub returns-then-is_floored : goal.returns-then-is_floored

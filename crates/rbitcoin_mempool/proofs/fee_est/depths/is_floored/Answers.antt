@@ -1,5 +1,5 @@
 -- `fee_est::depths::is_floored` meets its contract. Assumes nothing.
-use Rattle.std.proofs.Common.{sym, ◌∙◌, rules, le-leb}
+use Rattle.std.proofs.Common.{sym, ◌∙◌, le-leb}
 use borrow.Author.Tests.{lt-leb}
 use lib.Ieee.{of_bits}
 use Rattle.rbitcoin_mempool.specs.Depths.{floored}

@@ -1,5 +1,5 @@
 -- `fee_est::depths::published_depth_rate` meets its contract. Assumes nothing.
-use Rattle.std.proofs.Common.{◌≡◌, ℕ, cond, sym, ap, ◌∙◌, subst, arith, rules}
+use Rattle.std.proofs.Common.{◌≡◌, ℕ, cond, sym, ap, ◌∙◌, subst, arith}
 use mathlib.Core.Option.{Option}
 use Rattle.rbitcoin_mempool.specs.Rates.{given}
 use Rattle.rbitcoin_mempool.specs.Depths.{greater, warmup_blend, cold_rate, depth_rate_sat_kvb, floored, published_depth_rate}

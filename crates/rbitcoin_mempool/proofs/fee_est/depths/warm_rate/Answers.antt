@@ -1,5 +1,5 @@
 -- `fee_est::depths::warm_rate` meets its contract. Assumes nothing.
-use Rattle.std.proofs.Common.{rules, le-leb}
+use Rattle.std.proofs.Common.{le-leb}
 use borrow.Author.Tests.{lt-leb}
 use Rattle.rbitcoin_mempool.specs.Depths.{warm_rate}
 use Rattle.rbitcoin_mempool.proofs.fee_est.depths.warm_rate.Goals as goal

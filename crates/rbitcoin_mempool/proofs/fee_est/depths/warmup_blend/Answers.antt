@@ -1,5 +1,5 @@
 -- `fee_est::depths::warmup_blend` meets its contract. Assumes nothing.
-use Rattle.std.proofs.Common.{ℕ, sym, ap, ◌∙◌, subst, rules}
+use Rattle.std.proofs.Common.{ℕ, sym, ap, ◌∙◌, subst}
 use mathlib.Core.Option.{Option}
 use lib.Ieee.{Float}
 use Rattle.rbitcoin_mempool.specs.Rates.{given}

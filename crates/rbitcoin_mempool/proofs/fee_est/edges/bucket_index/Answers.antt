@@ -1,5 +1,5 @@
 -- `fee_est::edges::bucket_index` meets its contract. Assumes nothing.
-use Rattle.std.proofs.Common.{ℕ, ◌-◌, sym, ap, ◌∙◌, arith, rules, le-ltb, lt-ltb, eq-eqb, ne_eqb}
+use Rattle.std.proofs.Common.{ℕ, ◌-◌, sym, ap, ◌∙◌, arith, le-ltb, lt-ltb, eq-eqb, ne_eqb}
 use Rattle.rbitcoin_mempool.specs.Edges.{edge_at, first_above, bucket_index}
 use Rattle.rbitcoin_mempool.proofs.Decade.{last_edge}
 use Rattle.rbitcoin_mempool.proofs.fee_est.edges.bucket_index.Goals as goal

@@ -1,5 +1,5 @@
 -- `fee_est::edges::first_bucket_above` meets its contract. Assumes nothing.
-use Rattle.std.proofs.Common.{ℕ, sym, ap, ◌∙◌, arith, rules, le-ltb, lt-ltb}
+use Rattle.std.proofs.Common.{ℕ, sym, ap, ◌∙◌, arith, le-ltb, lt-ltb}
 use Rattle.num.specs.Word.{saturating_add}
 use Rattle.rbitcoin_mempool.specs.Edges.{edge_at, first_above, first_bucket_above}
 use Rattle.rbitcoin_mempool.proofs.Decade.{last_edge}

@@ -1,6 +1,6 @@
 -- `fee_est::hold::enforce_monotone_desc` meets its contract. The loop keeps `Lowering`. Assumes nothing.
-use Rattle.std.proofs.Common.{◌-◌, length, arith, rules}
-use Rattle.rbitcoin_mempool.proofs.Passes.{Lowering, lower-start, lower-step, lower_end}
+use Rattle.std.proofs.Common.{arith}
+use Rattle.rbitcoin_mempool.proofs.Passes.{lower-start, lower-step, lower_end}
 use Rattle.rbitcoin_mempool.proofs.fee_est.hold.enforce_monotone_desc.Goals as goal
 
 pub loop-i-init : goal.loop-i-init

@@ -1,5 +1,5 @@
 -- `fee_est::hold::hold_defined_then_monotone` meets its contract. Assumes nothing.
-use Rattle.std.proofs.Common.{sym, ◌∙◌, arith, rules}
+use Rattle.std.proofs.Common.{sym, ◌∙◌, arith}
 use borrow.Author.Tests.{not-true, not-false}
 use Rattle.rbitcoin_mempool.proofs.Passes.{held_1, held_8, held-done}
 use Rattle.std.proofs.lemmas.Bool.{not_from_true, not_from_false}
@@ -25,9 +25,9 @@ returns-then-not-marks_valid c =
 
 pub hold_all-requires : goal.hold_all-requires
 hold_all-requires c = record {
-      numbers_len = omega (arith, c.if-rates-marks.false);
-      marks_value = sym c.marks_valid.ensures ∙ not-false _ (not_from_true _ c.if-not-marks_valid.false);
-    }
+  numbers_len = omega (arith, c.if-rates-marks.false);
+  marks_value = sym c.marks_valid.ensures ∙ not-false _ (not_from_true _ c.if-not-marks_valid.false);
+}
 
 pub returns : goal.returns
 returns c =

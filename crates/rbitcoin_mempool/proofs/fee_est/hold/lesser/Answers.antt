@@ -1,5 +1,4 @@
 -- `fee_est::hold::lesser` meets its contract. Assumes nothing.
-use Rattle.std.proofs.Common.{rules}
 use Rattle.rbitcoin_mempool.proofs.fee_est.hold.lesser.Goals as goal
 
 pub returns-then-found : goal.returns-then-found

@@ -1,5 +1,5 @@
 -- `fee_est::hold::marks_valid` meets its contract. The loop keeps whether each mark so far is 0 or 1. Assumes nothing.
-use Rattle.std.proofs.Common.{◌≡◌, ℕ, ◌-◌, ◌≤◌, Bool, leb, length, get_or, refl, ap, ◌∙◌, arith, rules, le-leb}
+use Rattle.std.proofs.Common.{◌≡◌, ℕ, Bool, leb, length, get_or, refl, ap, ◌∙◌, arith, rules, le-leb}
 use borrow.Author.Tests.{lt-leb}
 use Rattle.slices.specs.Every.{every}
 use Rattle.rbitcoin_mempool.proofs.Passes.{flag-kept, flag_cleared}
@@ -17,7 +17,7 @@ loop-i-preserved c =
     let test : ℕ → Bool = λ k. leb (get_or ms k 0) 1 in (
       omega arith,
       elim c.if-marks-i-gt1.branch [
-        then-marks-i-gt1 w ↦ w.valid-is ∙ flag_cleared test c.loop-i.i (lt-leb _ _ w.if-marks-i-gt1.true)
+        | then-marks-i-gt1 w ↦ w.valid-is ∙ flag_cleared test c.loop-i.i (lt-leb _ _ w.if-marks-i-gt1.true)
         | else-marks-i-gt1 w ↦ w.valid-is ∙ flag-kept test c.loop-i.i c.loop-i.valid c.loop-i.invariant.1 (le-leb _ _ w.if-marks-i-gt1.false)
       ],
     )

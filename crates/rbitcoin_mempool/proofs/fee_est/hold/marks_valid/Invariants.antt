@@ -1,9 +1,6 @@
 -- `fee_est::hold::marks_valid` meets its contract. The loop keeps whether each mark so far is 0 or 1. Assumes nothing.
-use Rattle.std.proofs.Common.{◌≡◌, ℕ, ◌-◌, ◌≤◌, Bool, leb, length, get_or, refl, ap, ◌∙◌, ⊎_elim, arith, rules, le-leb}
-use borrow.Author.Tests.{lt-leb}
+use Rattle.std.proofs.Common.{◌≡◌, ◌-◌, ◌≤◌, leb, length, get_or}
 use Rattle.slices.specs.Every.{every}
-use Rattle.rbitcoin_mempool.proofs.Passes.{flag-kept, flag_cleared}
-use Rattle.rbitcoin_mempool.specs.Rates.{marks_valid}
 use Rattle.rbitcoin_mempool.proofs.fee_est.hold.marks_valid.Given as goal
 
 abbrev pub invariant-loop-i : goal.invariant-loop-i

@@ -1,5 +1,5 @@
 -- `fee_est::hold::never_descends` meets its contract. The loop keeps whether no depth so far is less than the one before it. Assumes nothing.
-use Rattle.std.proofs.Common.{◌≡◌, ℕ, suc, ◌-◌, ◌≤◌, Bool, leb, length, get_or, refl, ap, ◌∙◌, add-one, arith, rules, le-leb}
+use Rattle.std.proofs.Common.{◌≡◌, ℕ, suc, ◌-◌, Bool, leb, length, get_or, refl, ap, ◌∙◌, add-one, arith, le-leb}
 use borrow.Author.Tests.{lt-leb}
 use Rattle.slices.specs.Every.{every}
 use Rattle.rbitcoin_mempool.specs.Hold.{never_descends}
@@ -18,7 +18,7 @@ loop-i-preserved c =
     let test : ℕ → Bool = λ k. leb (get_or ds k 0) (get_or ds (suc k) 0) in (
       omega arith,
       elim c.if-depths-i.branch [
-        then-depths-i w ↦ w.keeps-is ∙ flag_cleared test i (rw (← add-one i) (lt-leb _ _ w.if-depths-i.true))
+        | then-depths-i w ↦ w.keeps-is ∙ flag_cleared test i (rw (← add-one i) (lt-leb _ _ w.if-depths-i.true))
         | else-depths-i w ↦ w.keeps-is ∙ flag-kept test i c.loop-i.keeps c.loop-i.invariant.1 (rw (← add-one i) (le-leb _ _ w.if-depths-i.false))
       ],
     )

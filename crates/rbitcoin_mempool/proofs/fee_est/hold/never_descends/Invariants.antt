@@ -1,9 +1,6 @@
 -- `fee_est::hold::never_descends` meets its contract. The loop keeps whether no depth so far is less than the one before it. Assumes nothing.
-use Rattle.std.proofs.Common.{◌≡◌, ℕ, suc, ◌-◌, ◌≤◌, Bool, leb, length, get_or, refl, ap, ◌∙◌, inl, inr, add-one, arith, rules, le-leb}
-use borrow.Author.Tests.{lt-leb}
+use Rattle.std.proofs.Common.{◌≡◌, suc, ◌-◌, ◌≤◌, leb, length, get_or}
 use Rattle.slices.specs.Every.{every}
-use Rattle.rbitcoin_mempool.specs.Hold.{never_descends}
-use Rattle.rbitcoin_mempool.proofs.Passes.{flag-kept, flag_cleared}
 use Rattle.rbitcoin_mempool.proofs.fee_est.hold.never_descends.Given as goal
 
 abbrev pub invariant-loop-i : goal.invariant-loop-i

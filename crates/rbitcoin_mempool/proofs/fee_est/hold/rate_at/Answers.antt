@@ -1,5 +1,5 @@
 -- `fee_est::hold::rate_at` meets its contract. Assumes nothing.
-use Rattle.std.proofs.Common.{rules, eq-eqb, ne_eqb}
+use Rattle.std.proofs.Common.{eq-eqb, ne_eqb}
 use Rattle.rbitcoin_mempool.proofs.fee_est.hold.rate_at.Goals as goal
 
 pub returns-then-marks-i-eq1 : goal.returns-then-marks-i-eq1

@@ -1,5 +1,5 @@
 -- `fee_est::percentile::percentile_sat` meets its contract. Assumes nothing.
-use Rattle.std.proofs.Common.{◌-◌, ◌/◌, length, get_or, ap, ◌∙◌, rules}
+use Rattle.std.proofs.Common.{◌-◌, ◌/◌, length, get_or, ap, ◌∙◌}
 use Rattle.num.specs.Word.{saturating_mul}
 use Rattle.slices.specs.Sorted.{sorted}
 use Rattle.rbitcoin_mempool.specs.Answer.{rate}

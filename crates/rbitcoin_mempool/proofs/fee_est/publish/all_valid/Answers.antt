@@ -1,5 +1,5 @@
 -- `fee_est::publish::all_valid` meets its contract. Assumes nothing.
-use Rattle.std.proofs.Common.{sym, ◌∙◌, rules}
+use Rattle.std.proofs.Common.{sym, ◌∙◌}
 use Rattle.rbitcoin_mempool.proofs.fee_est.publish.all_valid.Goals as goal
 
 pub returns-then-marks_valid-2 : goal.returns-then-marks_valid-2

@@ -1,5 +1,5 @@
 -- `fee_est::publish::lengths_agree` meets its contract. Assumes nothing.
-use Rattle.std.proofs.Common.{sym, ◌∙◌, rules, eq-eqb, ne_eqb}
+use Rattle.std.proofs.Common.{sym, ◌∙◌, eq-eqb, ne_eqb}
 use Rattle.rbitcoin_mempool.specs.Hold.{same_lengths}
 use Rattle.rbitcoin_mempool.proofs.fee_est.publish.lengths_agree.Goals as goal
 

@@ -1,8 +1,8 @@
 -- `fee_est::publish::publish_all` meets its contract: the loop keeps `Writing`. Assumes nothing.
-use Rattle.std.proofs.Common.{◌-◌, length, ap, ◌∙◌, arith, rules}
+use Rattle.std.proofs.Common.{length, ap, ◌∙◌, arith, rules}
 use Rattle.rbitcoin_mempool.specs.Rates.{given, number_of, mark_of}
 use Rattle.rbitcoin_mempool.specs.Hold.{args_of, published_at}
-use Rattle.rbitcoin_mempool.proofs.Publishing.{Writing, write-start, write_step, write_end}
+use Rattle.rbitcoin_mempool.proofs.Publishing.{write-start, write_step, write_end}
 use Rattle.rbitcoin_mempool.proofs.fee_est.publish.publish_all.Goals as goal
 
 pub loop-i-init : goal.loop-i-init

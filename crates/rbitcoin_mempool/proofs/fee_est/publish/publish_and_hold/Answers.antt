@@ -1,5 +1,5 @@
 -- `fee_est::publish::publish_and_hold` meets its contract. Assumes nothing.
-use Rattle.std.proofs.Common.{◌≡◌, ℕ, List, length, sym, ap, ◌∙◌, rules}
+use Rattle.std.proofs.Common.{◌≡◌, ℕ, List, length, sym, ap, ◌∙◌}
 use mathlib.Core.Option.{Option}
 use Rattle.slices.specs.Lists.{tabulate}
 use Rattle.rbitcoin_mempool.specs.Rates.{given, rates_of, marks_valid, numbers_of, marks_of, numbers_over}

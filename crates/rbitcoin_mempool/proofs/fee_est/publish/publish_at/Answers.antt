@@ -1,5 +1,5 @@
 -- `fee_est::publish::publish_at` meets its contract. Assumes nothing.
-use Rattle.std.proofs.Common.{ℕ, get_or, ap, ◌∙◌, rules}
+use Rattle.std.proofs.Common.{ℕ, get_or, ap, ◌∙◌}
 use mathlib.Core.Option.{Option}
 use Rattle.rbitcoin_mempool.specs.Rates.{given, rate_at}
 use Rattle.rbitcoin_mempool.specs.Depths.{flow_for_depth, published_depth_rate}

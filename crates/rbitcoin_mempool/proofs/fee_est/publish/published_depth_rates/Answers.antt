@@ -1,5 +1,5 @@
 -- `fee_est::publish::published_depth_rates` meets its contract. Assumes nothing.
-use Rattle.std.proofs.Common.{◌≡◌, length, sym, ap, ◌∙◌, rules}
+use Rattle.std.proofs.Common.{◌≡◌, length, sym, ap, ◌∙◌}
 use mathlib.Core.Option.{none}
 use Rattle.rbitcoin_mempool.specs.Rates.{given, refused_with, numbers_of, marks_of}
 use Rattle.rbitcoin_mempool.specs.Hold.{args_of, depth_rates, loop_refusal}

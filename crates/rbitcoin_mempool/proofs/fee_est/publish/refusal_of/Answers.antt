@@ -1,5 +1,5 @@
 -- `fee_est::publish::refusal_of` meets its contract. Assumes nothing.
-use Rattle.std.proofs.Common.{sym, ◌∙◌, rules}
+use Rattle.std.proofs.Common.{sym, ◌∙◌}
 use borrow.Author.Tests.{not-true, not-false}
 use Rattle.rbitcoin_mempool.specs.Hold.{input_marks, loop_refusal}
 use Rattle.std.proofs.lemmas.Bool.{not_from_true, not_from_false}

@@ -1,5 +1,5 @@
 -- `fee_est::target::at_index` meets its contract. Assumes nothing.
-use Rattle.std.proofs.Common.{sym, ◌∙◌, arith, rules, eq-eqb, ne_eqb}
+use Rattle.std.proofs.Common.{sym, ◌∙◌, arith, eq-eqb, ne_eqb}
 use Rattle.rbitcoin_mempool.specs.Target.{at_index}
 use Rattle.rbitcoin_mempool.proofs.Passes.{rates-at}
 use Rattle.rbitcoin_mempool.proofs.fee_est.target.at_index.Goals as goal

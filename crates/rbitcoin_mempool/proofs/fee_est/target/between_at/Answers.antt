@@ -1,5 +1,5 @@
 -- `fee_est::target::between_at` meets its contract. Assumes nothing.
-use Rattle.std.proofs.Common.{◌≡◌, ◌-◌, get_or, sym, ap, ◌∙◌, arith, rules}
+use Rattle.std.proofs.Common.{◌≡◌, ◌-◌, get_or, sym, ap, ◌∙◌, arith}
 use mathlib.Core.Option.{none, some}
 use Rattle.rbitcoin_mempool.specs.Rates.{given, rates_of}
 use Rattle.rbitcoin_mempool.proofs.Passes.{rates-at}

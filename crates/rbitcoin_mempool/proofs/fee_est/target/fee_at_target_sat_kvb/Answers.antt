@@ -1,5 +1,5 @@
 -- `fee_est::target::fee_at_target_sat_kvb` meets its contract. Assumes nothing.
-use Rattle.std.proofs.Common.{length, sym, ap, ◌∙◌, arith, rules, eq-eqb, ne_eqb}
+use Rattle.std.proofs.Common.{length, sym, ap, ◌∙◌, arith, eq-eqb, ne_eqb}
 use borrow.Author.Tests.{not-true, not-false}
 use Rattle.rbitcoin_mempool.specs.Rates.{as_answer}
 use Rattle.rbitcoin_mempool.specs.Target.{fee_at_target_sat_kvb}
@@ -28,9 +28,9 @@ returns-then-not-never_descends c = rw (eq-eqb (length c.args.rates.now) (length
 
 pub look_up-requires : goal.look_up-requires
 look_up-requires c = record {
-      depths_nonzero = (omega (arith, c.if-depths-eq0.false), sym c.never_descends.ensures ∙ not-false _ (not_from_true _ c.if-not-never_descends.false));
-      numbers_len = (omega (arith, c.if-depths-rates.false), omega (arith, c.if-depths-rates.false, c.if-rates-marks.false));
-    }
+  depths_nonzero = (omega (arith, c.if-depths-eq0.false), sym c.never_descends.ensures ∙ not-false _ (not_from_true _ c.if-not-never_descends.false));
+  numbers_len = (omega (arith, c.if-depths-rates.false), omega (arith, c.if-depths-rates.false, c.if-rates-marks.false));
+}
 
 pub returns : goal.returns
 unfolding fee_at_target_sat_kvb

@@ -1,5 +1,5 @@
 -- `fee_est::target::first_at` meets its contract. The loop keeps a `Cut`. Assumes nothing.
-use Rattle.std.proofs.Common.{ℕ, ◌+◌, ◌/◌, Bool, ltb, leb, List, length, get_or, zero-add, arith, rules, ltb-false, ltb-true, le-leb}
+use Rattle.std.proofs.Common.{ℕ, ◌+◌, ◌/◌, Bool, ltb, leb, List, length, get_or, zero-add, arith, ltb-false, ltb-true, le-leb}
 use borrow.Author.Tests.{lt-leb}
 use Rattle.slices.proofs.Search.{Cut, cut-start, cut_up, cut_down, cut_end}
 use Rattle.rbitcoin_mempool.proofs.Halving.{at_most_one, at_most, halved}

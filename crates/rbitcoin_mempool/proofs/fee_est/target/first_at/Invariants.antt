@@ -1,9 +1,6 @@
 -- `fee_est::target::first_at` meets its contract. The loop keeps a `Cut`. Assumes nothing.
-use Rattle.std.proofs.Common.{ℕ, ◌+◌, ◌/◌, Bool, ltb, leb, List, length, get_or, zero-add, arith, rules, ltb-false, ltb-true, le-leb}
-use borrow.Author.Tests.{lt-leb}
-use Rattle.slices.proofs.Search.{Cut, cut-start, cut_up, cut_down, cut_end}
-use Rattle.rbitcoin_mempool.proofs.Halving.{at_most_one, at_most, halved}
-use Rattle.rbitcoin_mempool.proofs.Passes.{reached-stays}
+use Rattle.std.proofs.Common.{ℕ, ◌+◌, Bool, leb, List, length, get_or}
+use Rattle.slices.proofs.Search.{Cut}
 use Rattle.rbitcoin_mempool.proofs.fee_est.target.first_at.Given as goal
 
 abbrev reached : List ℕ → ℕ → ℕ → Bool

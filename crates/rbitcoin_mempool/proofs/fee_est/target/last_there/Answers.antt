@@ -1,5 +1,5 @@
 -- `fee_est::target::last_there` meets its contract. What lies behind the loop holds no rate. Assumes nothing.
-use Rattle.std.proofs.Common.{◌≡◌, ℕ, suc, ◌-◌, ◌≤◌, take, sym, refl, ap, ◌∙◌, arith, rules}
+use Rattle.std.proofs.Common.{◌≡◌, ℕ, suc, ◌-◌, take, sym, refl, ap, ◌∙◌, arith, rules}
 use Rattle.rbitcoin_mempool.specs.Rates.{rates_of}
 use Rattle.rbitcoin_mempool.specs.Target.{last_there}
 use Rattle.rbitcoin_mempool.proofs.Passes.{last_there_lem, last-missing}

@@ -1,5 +1,5 @@
 -- `fee_est::target::line_short` meets its contract. Assumes nothing.
-use Rattle.std.proofs.Common.{arith, rules}
+use Rattle.std.proofs.Common.{arith}
 use Rattle.rbitcoin_mempool.proofs.Lerp.{short-fits, short_quotient, short_remainder, short-up, short-down}
 use Rattle.rbitcoin_mempool.proofs.fee_est.target.line_short.Goals as goal
 

@@ -1,5 +1,5 @@
 -- `fee_est::target::look_up` meets its contract. Assumes nothing.
-use Rattle.std.proofs.Common.{ℕ, ◌<◌, ◌≤◌, length, sym, ap, ◌∙◌, subst, arith, take_all, rules, le-ltb, lt-ltb}
+use Rattle.std.proofs.Common.{ℕ, ◌<◌, ◌≤◌, length, sym, ap, ◌∙◌, subst, arith, take_all, le-ltb, lt-ltb}
 use Rattle.rbitcoin_mempool.specs.Rates.{rates_of}
 use Rattle.rbitcoin_mempool.specs.Target.{lerp_sat_kvb, last_there, at_index, at_target, fee_at_target}
 use Rattle.rbitcoin_mempool.proofs.Passes.{reached-lt, rates-length}

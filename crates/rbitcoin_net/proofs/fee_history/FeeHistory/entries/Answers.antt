@@ -5,7 +5,6 @@ use native.Mathlib.Omega.{arith}
 use mathlib.Core.Path.{sym, refl, ◌∙◌}
 use Rattle.rbitcoin_net.proofs.Refusals.{entries_fit}
 use Rattle.rbitcoin_net.proofs.Readers.{entries-refused, entries-written, part-written}
-use borrow.Author.Rules.{rules}
 use Rattle.rbitcoin_net.proofs.fee_history.FeeHistory.entries.Goals as goal
 
 pub returns-then-refusal-ne0 : goal.returns-then-refusal-ne0

@@ -1,6 +1,5 @@
 -- `fee_history::FeeHistory::get` meets its contract. Assumes nothing.
 use mathlib.Core.Path.{sym, ◌∙◌}
-use borrow.Author.Rules.{rules}
 use Rattle.rbitcoin_net.proofs.Refusals.{rows-lent}
 use Rattle.rbitcoin_net.proofs.Search.{get_refused, get-given}
 use Rattle.rbitcoin_net.proofs.fee_history.FeeHistory.get.Goals as goal

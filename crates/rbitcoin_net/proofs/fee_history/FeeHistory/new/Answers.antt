@@ -2,7 +2,6 @@
 use mathlib.Core.Path.{◌∙◌, ap}
 use Rattle.rbitcoin_net.specs.Openings.{fresh_of}
 use Rattle.rbitcoin_net.proofs.Openings.{new-refused, new_short, new-done}
-use borrow.Author.Rules.{rules}
 use Rattle.rbitcoin_net.proofs.fee_history.FeeHistory.new.Goals as goal
 
 pub returns-then-of_windows-ne0 : goal.returns-then-of_windows-ne0

@@ -6,7 +6,6 @@ use Rattle.rbitcoin_net.specs.Lent.{rows}
 use Rattle.rbitcoin_net.specs.Rates.{rated, outputs}
 use Rattle.rbitcoin_net.proofs.Rates.{rates-refused, rates-done, rates_tracked}
 use Rattle.rbitcoin_net.proofs.Refusals.{rates-fit, within}
-use borrow.Author.Rules.{rules}
 use Rattle.rbitcoin_net.proofs.fee_history.FeeHistory.rates.Goals as goal
 
 pub returns-then-refusal-ne0 : goal.returns-then-refusal-ne0

@@ -4,7 +4,6 @@ use mathlib.Core.Path.{sym, ◌∙◌}
 use lib.Seq.{length-take-le}
 use Rattle.rbitcoin_net.proofs.Refusals.{recent-fits}
 use Rattle.rbitcoin_net.proofs.Readers.{recent-refused, recent-written, front-written}
-use borrow.Author.Rules.{rules}
 use Rattle.rbitcoin_net.proofs.fee_history.FeeHistory.recent_hashes.Goals as goal
 
 pub returns-then-refusal-ne0 : goal.returns-then-refusal-ne0

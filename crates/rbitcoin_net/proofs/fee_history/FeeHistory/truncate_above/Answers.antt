@@ -2,7 +2,6 @@
 use mathlib.Core.Path.{sym, ◌∙◌}
 use Rattle.rbitcoin_net.proofs.Refusals.{truncate-fits}
 use Rattle.rbitcoin_net.proofs.CutSound.{truncate_alike, truncate-refused, truncate-done}
-use borrow.Author.Rules.{rules}
 use Rattle.rbitcoin_net.proofs.fee_history.FeeHistory.truncate_above.Goals as goal
 
 pub returns-then-refusal-ne0 : goal.returns-then-refusal-ne0

@@ -1,14 +1,11 @@
 -- `fee_history::cuts::cut_at` meets its contract. The loop forgets one row more each turn. Assumes nothing.
-use borrow.Author.Rules.{rules}
 use Prim.Native.Nat.{◌-◌, ◌≤◌}
-use mathlib.Core.Path.{◌≡◌, refl}
+use mathlib.Core.Path.{◌≡◌}
 use mathlib.Core.List.{[]}
-use native.Mathlib.Omega.{arith}
 use lib.ListN.{length}
 use Rattle.rbitcoin_mempool.specs.Windows.{pop_back_of}
 use Rattle.rbitcoin_net.specs.Lent.{rows}
 use Rattle.rbitcoin_net.specs.Cuts.{forget_rows}
-use Rattle.rbitcoin_net.proofs.Cuts.{forgotten-at, rows_turn, rows_none, cut-done}
 use Rattle.rbitcoin_net.proofs.fee_history.cuts.cut_at.Given as goal
 
 abbrev pub invariant-loop-i : goal.invariant-loop-i

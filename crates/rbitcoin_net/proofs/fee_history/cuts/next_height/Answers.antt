@@ -1,7 +1,6 @@
 -- `fee_history::cuts::next_height` meets its contract. Assumes nothing.
 use native.Mathlib.Omega.{arith}
 use Rattle.rbitcoin_net.specs.History.{next}
-use borrow.Author.Rules.{rules}
 use Rattle.rbitcoin_net.proofs.fee_history.cuts.next_height.Goals as goal
 
 pub returns-then-h-lt4294967295 : goal.returns-then-h-lt4294967295

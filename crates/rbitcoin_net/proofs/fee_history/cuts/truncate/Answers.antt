@@ -1,7 +1,6 @@
 -- `fee_history::cuts::truncate` meets its contract. Assumes nothing.
 use mathlib.Core.Path.{refl}
 use Rattle.rbitcoin_net.proofs.CutSound.{truncated}
-use borrow.Author.Rules.{rules}
 use Rattle.rbitcoin_net.proofs.fee_history.cuts.truncate.Goals as goal
 
 pub returns : goal.returns

@@ -1,11 +1,10 @@
 -- `fee_history::evict::evict` meets its contract. Assumes nothing.
-use mathlib.Core.Path.{◌≡◌, refl, ◌∙◌, ap}
+use mathlib.Core.Path.{refl, ◌∙◌, ap}
 use mathlib.Core.List.{[]}
 use native.Mathlib.Omega.{arith}
-use lib.ListN.{length}
-use Rattle.rbitcoin_net.specs.Lent.{rows, hashes}
-use Rattle.rbitcoin_net.specs.Evictions.{Hashed, hashed, evict_rows, evict_in}
-use Rattle.rbitcoin_net.proofs.Evictions.{Going, evicted-at, within-budget, none_left, going_on, evicted-count}
+use Rattle.rbitcoin_net.specs.Lent.{rows}
+use Rattle.rbitcoin_net.specs.Evictions.{Hashed, evict_in}
+use Rattle.rbitcoin_net.proofs.Evictions.{evicted-at, within-budget, none_left, going_on, evicted-count}
 use Rattle.rbitcoin_net.proofs.fee_history.evict.evict.Goals as goal
 
 pub loop-t-init : goal.loop-t-init

@@ -1,7 +1,6 @@
 -- `fee_history::evict::evict_one` meets its contract. Assumes nothing.
 use native.Mathlib.Omega.{arith}
 use Rattle.rbitcoin_net.proofs.Evictions.{evicted-one}
-use borrow.Author.Rules.{rules}
 use Rattle.rbitcoin_net.proofs.fee_history.evict.evict_one.Goals as goal
 
 pub overflow_sub-t : goal.overflow_sub-t

@@ -1,6 +1,5 @@
 -- `fee_history::evict::forget_front` meets its contract. Assumes nothing.
 use Rattle.rbitcoin_net.proofs.Cuts.{forget-stale, forget_there, forget-missing}
-use borrow.Author.Rules.{rules}
 use Rattle.rbitcoin_net.proofs.fee_history.evict.forget_front.Goals as goal
 
 pub returns-then-s : goal.returns-then-s

@@ -3,7 +3,6 @@ use native.Mathlib.Omega.{arith}
 use mathlib.Core.Path.{◌∙◌}
 use Rattle.slices.proofs.Runs.{copied}
 use Rattle.rbitcoin_net.specs.Lent.{hashes}
-use borrow.Author.Rules.{rules}
 use Rattle.rbitcoin_net.proofs.fee_history.hashes.move_hashes.Goals as goal
 
 pub returns : goal.returns

@@ -3,7 +3,6 @@ use native.Mathlib.Omega.{arith}
 use mathlib.Core.Path.{sym, ◌∙◌}
 use Rattle.rbitcoin_net.proofs.Search.{is-at-true}
 use Rattle.rbitcoin_net.proofs.Hashes.{note-over, note-between, note_lowest, note-above}
-use borrow.Author.Rules.{rules}
 use Rattle.rbitcoin_net.proofs.fee_history.hashes.note_at.Goals as goal
 
 pub put_hash-requires : goal.put_hash-requires

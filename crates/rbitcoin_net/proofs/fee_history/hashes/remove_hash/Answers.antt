@@ -4,7 +4,6 @@ use mathlib.Core.Path.{sym, ◌∙◌}
 use borrow.Author.Tests.{not-true, not-false}
 use Rattle.rbitcoin_net.proofs.Search.{is-at-true}
 use Rattle.rbitcoin_net.proofs.Hashes.{hash-place-is, remove-none, remove-some}
-use borrow.Author.Rules.{rules}
 use Rattle.std.proofs.lemmas.Bool.{not_from_true, not_from_false}
 use Rattle.rbitcoin_net.proofs.fee_history.hashes.remove_hash.Goals as goal
 

@@ -1,6 +1,5 @@
 -- `fee_history::inserts::connect` meets its contract. Assumes nothing.
 use Rattle.rbitcoin_net.proofs.Connecting.{hashes_ready, cut_ready, left_is, store_ready, connected_all}
-use borrow.Author.Rules.{rules}
 use Rattle.rbitcoin_net.proofs.fee_history.inserts.connect.Goals as goal
 
 pub lower_bound-q-requires : goal.lower_bound-q-requires

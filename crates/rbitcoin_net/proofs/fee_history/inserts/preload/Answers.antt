@@ -1,6 +1,5 @@
 -- `fee_history::inserts::preload` meets its contract. Assumes nothing.
 use Rattle.rbitcoin_net.proofs.Preloading.{preload_ready, preloaded_all}
-use borrow.Author.Rules.{rules}
 use Rattle.rbitcoin_net.proofs.fee_history.inserts.preload.Goals as goal
 
 pub store-requires : goal.store-requires

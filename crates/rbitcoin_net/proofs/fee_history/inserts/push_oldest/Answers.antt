@@ -1,7 +1,6 @@
 -- `fee_history::inserts::push_oldest` meets its contract. Assumes nothing.
 use Rattle.rbitcoin_mempool.specs.Windows.{push_front_of}
 use Rattle.rbitcoin_net.proofs.Inserting.{push-stale, push_there, push-missing}
-use borrow.Author.Rules.{rules}
 use Rattle.rbitcoin_net.proofs.fee_history.inserts.push_oldest.Goals as goal
 
 pub returns-then-stale : goal.returns-then-stale

@@ -1,6 +1,5 @@
 -- `fee_history::inserts::stale_at` meets its contract. Assumes nothing.
 use Rattle.rbitcoin_net.proofs.Preloading.{stale-behind, stale-before, stale_there, stale-missing}
-use borrow.Author.Rules.{rules}
 use Rattle.rbitcoin_net.proofs.fee_history.inserts.stale_at.Goals as goal
 
 pub returns-then-q-n : goal.returns-then-q-n

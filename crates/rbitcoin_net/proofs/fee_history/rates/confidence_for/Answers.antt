@@ -1,7 +1,6 @@
 -- `fee_history::rates::confidence_for` meets its contract. Assumes nothing.
 use mathlib.Core.Path.{sym, ◌∙◌}
 use lib.Ieee.{of_int, of_bits}
-use borrow.Author.Rules.{rules}
 use borrow.Author.Tests.{le-leb, lt-leb}
 use Rattle.rbitcoin_net.specs.History.{confidence_of}
 use Rattle.rbitcoin_net.proofs.fee_history.rates.confidence_for.Goals as goal

@@ -1,18 +1,12 @@
 -- `fee_history::rates::push_rows` meets its contract. Assumes nothing.
-use Prim.Native.Nat.{ℕ, ◌+◌, ◌-◌, ◌≤◌, ◌<◌}
-use mathlib.Core.Bool.{false}
+use Prim.Native.Nat.{ℕ, ◌+◌, ◌-◌, ◌≤◌}
 use mathlib.Core.List.{List}
-use mathlib.Core.Path.{◌≡◌, refl, ap, ◌∙◌}
-use native.Mathlib.Omega.{arith}
+use mathlib.Core.Path.{◌≡◌}
 use lib.ListN.{length}
 use Rattle.slices.specs.Lists.{tabulate}
-use Rattle.rbitcoin_mempool.specs.Rates.{given}
-use Rattle.rbitcoin_mempool.specs.Windows.{push_all, push_back_of, windows}
+use Rattle.rbitcoin_mempool.specs.Windows.{push_all, windows}
 use Rattle.rbitcoin_net.specs.History.{hurdles_of}
-use Rattle.rbitcoin_net.specs.Inserts.{push_rate}
 use Rattle.rbitcoin_net.specs.Lent.{rows, row_at}
-use Rattle.rbitcoin_net.proofs.Rating.{rows_turn, rows_start, rows-done}
-use borrow.Author.Rules.{rules}
 use Rattle.rbitcoin_net.proofs.fee_history.rates.push_rows.Given as goal
 
 abbrev pub invariant-loop-i : goal.invariant-loop-i

@@ -1,15 +1,13 @@
 -- `fee_history::rates::put_answers` meets its contract. Assumes nothing.
-use Prim.Native.Nat.{ℕ, ◌+◌, ◌-◌, ◌≤◌, ◌<◌}
+use Prim.Native.Nat.{ℕ, ◌+◌, ◌<◌}
 use mathlib.Core.Bool.{cond}
 use mathlib.Core.List.{◌++◌}
 use mathlib.Core.Path.{◌≡◌, refl, sym, ap, ◌∙◌}
 use native.Mathlib.Omega.{arith}
 use lib.Dec.{eqb}
-use lib.ListN.{length, length-set, get_or, take, drop}
-use Rattle.slices.specs.Lists.{tabulate}
+use lib.ListN.{length-set, get_or, drop}
 use Rattle.rbitcoin_net.proofs.Rating.{numbers_are, marks_are}
 use Rattle.rbitcoin_net.proofs.Tables.{table_turn, table_done}
-use borrow.Author.Rules.{rules}
 use Rattle.rbitcoin_net.proofs.fee_history.rates.put_answers.Goals as goal
 
 pub loop-i-init : goal.loop-i-init

@@ -1,18 +1,13 @@
 -- `fee_history::rates::rate_slots` meets its contract. Assumes nothing.
 use Prim.Native.Nat.{ℕ, ◌-◌, ◌≤◌, ◌<◌}
 use mathlib.Core.Option.{none}
-use mathlib.Core.Path.{◌≡◌, refl, ap, ◌∙◌}
-use native.Mathlib.Omega.{arith}
+use mathlib.Core.Path.{◌≡◌}
 use lib.ListN.{length}
 use Rattle.slices.specs.Lists.{tabulate}
-use Rattle.rbitcoin_mempool.specs.Answer.{answer}
 use Rattle.rbitcoin_mempool.specs.Rates.{number_of, mark_of}
 use Rattle.rbitcoin_mempool.specs.Windows.{windows}
-use Rattle.rbitcoin_mempool.proofs.Padding.{Padding, pad-start}
-use Rattle.rbitcoin_net.specs.History.{found}
-use Rattle.rbitcoin_net.specs.Rates.{rate_from, slots}
-use Rattle.rbitcoin_net.proofs.Rating.{slots_turn, slots-done, scratch-same, rate_read}
-use borrow.Author.Rules.{rules}
+use Rattle.rbitcoin_mempool.proofs.Padding.{Padding}
+use Rattle.rbitcoin_net.specs.Rates.{rate_from}
 use Rattle.rbitcoin_net.proofs.fee_history.rates.rate_slots.Given as goal
 
 abbrev pub invariant-loop-d : goal.invariant-loop-d

@@ -7,7 +7,6 @@ use lib.ListN.{length}
 use Rattle.rbitcoin_net.specs.Lent.{rows}
 use Rattle.rbitcoin_net.specs.Rates.{rated}
 use Rattle.rbitcoin_net.proofs.Rates.{false-true, kept-answers, fresh-answers, fresh_tracked, fresh-scratch}
-use borrow.Author.Rules.{rules}
 use Rattle.rbitcoin_net.proofs.fee_history.rates.rates_in.Goals as goal
 
 pub returns-then-s : goal.returns-then-s

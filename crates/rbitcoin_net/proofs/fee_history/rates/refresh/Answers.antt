@@ -2,7 +2,6 @@
 use Rattle.rbitcoin_mempool.specs.Windows.{windows}
 use Rattle.rbitcoin_net.specs.Lent.{rows}
 use Rattle.rbitcoin_net.proofs.Rating.{refresh-stale, refresh-kept}
-use borrow.Author.Rules.{rules}
 use Rattle.rbitcoin_net.proofs.fee_history.rates.refresh.Goals as goal
 
 pub returns-then-s : goal.returns-then-s

@@ -1,14 +1,11 @@
 -- `fee_history::readers::put_marks` meets its contract. Assumes nothing.
-use native.Mathlib.Omega.{arith}
-use mathlib.Core.Path.{◌≡◌, refl}
+use mathlib.Core.Path.{◌≡◌}
 use mathlib.Core.Bool.{cond}
 use mathlib.Core.List.{◌++◌}
-use Prim.Native.Nat.{◌+◌, ◌-◌, ◌≤◌}
+use Prim.Native.Nat.{◌-◌, ◌≤◌}
 use lib.Dec.{eqb}
-use lib.ListN.{length, length-set, get_or, take, drop}
+use lib.ListN.{length, get_or, take, drop}
 use Rattle.slices.specs.Lists.{tabulate}
-use Rattle.rbitcoin_net.proofs.Tables.{table_turn, table_done}
-use borrow.Author.Rules.{rules}
 use Rattle.rbitcoin_net.proofs.fee_history.readers.put_marks.Given as goal
 
 abbrev pub invariant-loop-i : goal.invariant-loop-i

@@ -6,7 +6,6 @@ use mathlib.Core.Path.{sym, refl}
 use mathlib.Core.Bool.{cond}
 use lib.Dec.{eqb}
 use Rattle.rbitcoin_mempool.proofs.Refusals.{first_stands, then_second}
-use borrow.Author.Rules.{rules}
 use Rattle.rbitcoin_net.proofs.fee_history.refusals.entries_refusal.Goals as goal
 
 pub returns-then-to_r-to_m : goal.returns-then-to_r-to_m

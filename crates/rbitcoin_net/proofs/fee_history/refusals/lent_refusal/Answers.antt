@@ -3,7 +3,6 @@ use mathlib.Core.Path.{sym, ◌∙◌}
 use Rattle.rbitcoin_net.specs.Inserts.{sizes_refusal}
 use Rattle.rbitcoin_mempool.proofs.Refusals.{first_stands, then_second}
 use Rattle.rbitcoin_net.proofs.Refusals.{windows_taken}
-use borrow.Author.Rules.{rules}
 use Rattle.rbitcoin_net.proofs.fee_history.refusals.lent_refusal.Goals as goal
 
 pub returns-then-of_rows-ne0 : goal.returns-then-of_rows-ne0

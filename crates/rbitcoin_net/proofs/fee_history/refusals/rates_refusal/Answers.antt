@@ -7,7 +7,6 @@ use borrow.Author.Tests.{eq-eqb, ne_eqb, lt-ltb, le-ltb}
 use Rattle.rbitcoin_mempool.proofs.Refusals.{first_stands, then_second}
 use Rattle.rbitcoin_net.specs.Rates.{rates_refusal}
 use Rattle.rbitcoin_net.proofs.Refusals.{windows_taken, rates-from}
-use borrow.Author.Rules.{rules}
 use Rattle.rbitcoin_net.proofs.fee_history.refusals.rates_refusal.Goals as goal
 
 pub returns-then-to_n-to_m : goal.returns-then-to_n-to_m

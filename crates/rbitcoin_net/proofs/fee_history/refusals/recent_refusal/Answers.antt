@@ -5,7 +5,6 @@ use native.Mathlib.Omega.{arith}
 use mathlib.Core.Path.{sym}
 use Prim.Native.Nat.{◌*◌, ◌<◌, ◌≤◌}
 use Rattle.rbitcoin_mempool.proofs.Refusals.{first_stands, then_second}
-use borrow.Author.Rules.{rules}
 use Rattle.rbitcoin_net.proofs.fee_history.refusals.recent_refusal.Goals as goal
 
 pub returns-then-of_hashes-ne0 : goal.returns-then-of_hashes-ne0

@@ -1,5 +1,4 @@
 -- `fee_history::refusals::rows_refusal` meets its contract. Assumes nothing.
-use borrow.Author.Rules.{rules}
 use Rattle.rbitcoin_mempool.proofs.Refusals.{first_stands, then_second}
 use Rattle.rbitcoin_net.proofs.fee_history.refusals.rows_refusal.Goals as goal
 

@@ -1,6 +1,5 @@
 -- `fee_history::refusals::state_refusal` meets its contract. Assumes nothing.
 use native.Mathlib.Omega.{arith}
-use borrow.Author.Rules.{rules}
 use Rattle.rbitcoin_mempool.proofs.Refusals.{first_stands}
 use Rattle.rbitcoin_net.proofs.Refusals.{state-full, state-hashes, state_taken}
 use Rattle.rbitcoin_net.specs.Lent.{state_refusal}

@@ -1,7 +1,6 @@
 -- `fee_history::refusals::truncate_refusal` meets its contract. Assumes nothing.
 use Rattle.rbitcoin_net.specs.Cuts.{truncate_refusal}
 use Rattle.rbitcoin_mempool.proofs.Refusals.{first_stands, then_second}
-use borrow.Author.Rules.{rules}
 use Rattle.rbitcoin_net.proofs.fee_history.refusals.truncate_refusal.Goals as goal
 
 pub returns-then-of_rows-ne0 : goal.returns-then-of_rows-ne0

@@ -1,6 +1,5 @@
 -- `fee_history::rooms::hold_at` meets its contract. Assumes nothing.
 use Rattle.rbitcoin_net.proofs.Rooms.{held_at}
-use borrow.Author.Rules.{rules}
 use Rattle.rbitcoin_net.proofs.fee_history.rooms.hold_at.Goals as goal
 
 pub returns : goal.returns

@@ -2,7 +2,6 @@
 use mathlib.Core.Path.{◌∙◌}
 use lib.ListN.{length-set}
 use Rattle.rbitcoin_net.proofs.Rooms.{open-down, open_up}
-use borrow.Author.Rules.{rules}
 use Rattle.rbitcoin_net.proofs.fee_history.rooms.open_u8.Goals as goal
 
 pub shape_of-xs-then-to-from : goal.shape_of-xs-then-to-from

@@ -1,7 +1,6 @@
 -- `fee_history::rooms::start_with` meets its contract. Assumes nothing.
 use native.Mathlib.Omega.{arith}
 use Rattle.rbitcoin_net.proofs.Rooms.{start-none-before, start-before, start-none-behind, start-stays}
-use borrow.Author.Rules.{rules}
 use Rattle.rbitcoin_net.proofs.fee_history.rooms.start_with.Goals as goal
 
 pub returns-then-s-eq0 : goal.returns-then-s-eq0

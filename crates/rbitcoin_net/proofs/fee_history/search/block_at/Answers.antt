@@ -1,5 +1,4 @@
 -- `fee_history::search::block_at` meets its contract. Assumes nothing.
-use borrow.Author.Rules.{rules}
 use Rattle.rbitcoin_net.proofs.fee_history.search.block_at.Goals as goal
 
 pub returns : goal.returns

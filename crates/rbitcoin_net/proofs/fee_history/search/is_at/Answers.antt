@@ -1,5 +1,4 @@
 -- `fee_history::search::is_at` meets its contract. Assumes nothing.
-use borrow.Author.Rules.{rules}
 use borrow.Author.Tests.{lt-ltb, le-ltb}
 use Rattle.rbitcoin_net.specs.Search.{is_at}
 use Rattle.rbitcoin_net.proofs.fee_history.search.is_at.Goals as goal

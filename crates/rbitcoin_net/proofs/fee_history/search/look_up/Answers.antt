@@ -1,7 +1,6 @@
 -- `fee_history::search::look_up` meets its contract. Assumes nothing.
 use native.Mathlib.Omega.{arith}
 use mathlib.Core.Path.{sym, ◌∙◌}
-use borrow.Author.Rules.{rules}
 use Rattle.rbitcoin_net.proofs.Search.{place_is, is-at-true, look-up-held, look-up-nothing}
 use Rattle.rbitcoin_net.proofs.fee_history.search.look_up.Goals as goal
 

@@ -1,16 +1,8 @@
 -- `fee_history::search::lower_bound` meets its contract: each turn is one of the definition's. Assumes nothing.
-use Prim.Native.Nat.{ℕ, ◌+◌, ◌-◌, ◌/◌, ◌≤◌, ◌<◌}
-use mathlib.Core.Bool.{true, false}
+use Prim.Native.Nat.{ℕ, ◌+◌, ◌-◌, ◌≤◌}
 use mathlib.Core.List.{List}
-use mathlib.Core.Path.{◌≡◌, refl, subst, sym}
-use native.Mathlib.Omega.{arith}
-use borrow.Author.Rules.{rules}
-use borrow.Author.Tests.{ltb-true, ltb-false}
-use lib.Dec.{ltb}
-use lib.ListN.{get_or}
-use Rattle.rbitcoin_mempool.proofs.Halving.{at_most_one, at_most, halved}
 use Rattle.rbitcoin_net.specs.Search.{bisect}
-use Rattle.rbitcoin_net.proofs.Search.{Turns, go_right, go_left, ended}
+use Rattle.rbitcoin_net.proofs.Search.{Turns}
 use Rattle.rbitcoin_net.proofs.fee_history.search.lower_bound.Given as goal
 
 abbrev Left : List ℕ → ℕ → ℕ → ℕ → ℕ → ℕ → Type 0
