@@ -299,7 +299,7 @@ fn answer_all<W: Write>(to: &mut W, lines: &[u8]) -> io::Result<()> {
 
 fn main(rt: HostRuntime) -> io::Result<()> {
     let mut lines = Vec::new(rt.alloc());
-    rt.reader().read_to_end(&mut lines)?;
+    rt.reader().take(65536).read_to_end(&mut lines)?;
     let mut to = BufWriter::new(rt.alloc(), io::writer(&rt))?;
     answer_all(&mut to, &lines)?;
     to.flush()
