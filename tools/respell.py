@@ -1,10 +1,11 @@
 #!/usr/bin/env python3
 """Brings the repository's own definitions and lemmas to Rattle's present spelling.
 
-usage: tools/respell.py [--dry-run]        at the top of the repository, once, right after /opt/rattle/port/port.py
+usage: tools/respell.py [--dry-run]        at the top of the repository, once, right after the kit's port/port.py
 
 Words are in snake case (`leastFitting` becomes `least_fitting`), types and facts keep their capital. In a lemma's name a
-dash joins two names, and a plain word is added with `_` (`edge-rule` becomes `edge_rule`, `length-sorted` stays). Functions
+dash joins two names, and a plain word is added with `_` (`edge-rule` becomes `edge_rule`, `length-sorted` stays). A field or a
+constructor of specs/ has no dash (`same-targets` becomes `same_targets`). Functions
 of src/, exported names, strings, inputs and outputs keep their names. Rewrites the code of crates/, the edits in
 crates/*/must-fail and edits/, and what stands in backquotes in README.md and docs/. Prints the names that would fall together.
 """
@@ -61,7 +62,7 @@ def declared(text):
 
 
 def table():
-    names, known = set(), set()
+    names, known, fields = set(), set(), set()
     for path in files("crates", (".antt",)):
         text = read(path)
         for m in re.finditer(r"use [\w.'+-]+\.\{([^}]*)\}", text):
@@ -70,6 +71,8 @@ def table():
             continue
         for marks, name in declared(text):
             names.add(name)
+            if "/specs/" in path:
+                fields.add(name)
             if "-" not in name and ("/specs/" in path or "abbrev" in marks or "unfoldable" in marks or "data" in marks or "record" in marks):
                 known.add(name)
     known = {snake(n) for n in known if len(n) > 1}
@@ -80,7 +83,7 @@ def table():
         parts = [snake(p) for p in name.split("-")]
         to = parts[0]
         for p in parts[1:]:
-            to += ("-" if p in known else "_") + p
+            to += ("-" if p in known and name not in fields else "_") + p
         if to != name:
             new[name] = to
     for path in files("crates", (".antt", ".rt")):

@@ -36,8 +36,8 @@ bytes_in search.nothing = 0
 bytes_in (search.refused k) = 0
 
 pub record BlockIs (a : search.Looked) (k : ℕ) (held : Bool) (m r z : ℕ) : Type 0 where
-  pub is-refusal : k ≡ refusal_of a
-  pub is-held : held ≡ is_held a
-  pub is-mark : m ≡ mark_in a
-  pub is-rate : r ≡ rate_in a
-  pub is-bytes : z ≡ bytes_in a
+  pub is_refusal : k ≡ refusal_of a
+  pub is_held : held ≡ is_held a
+  pub is_mark : m ≡ mark_in a
+  pub is_rate : r ≡ rate_in a
+  pub is_bytes : z ≡ bytes_in a

@@ -19,6 +19,6 @@ rate_of none = 0
 rate_of (refusal k) = 0
 
 pub record Fields (a : Answer) (k m r : ℕ) : Type 0 where
-  pub is-refusal : k ≡ refusal_of a
-  pub is-mark : m ≡ mark_of a
-  pub is-rate : r ≡ rate_of a
+  pub is_refusal : k ≡ refusal_of a
+  pub is_mark : m ≡ mark_of a
+  pub is_rate : r ≡ rate_of a

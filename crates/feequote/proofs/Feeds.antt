@@ -49,7 +49,7 @@ text_written had d d' n q =
     ap (take n) q.wrote.whole ∙ take_at t (drop (0 + length t) d) n (omega (arith, q.wrote.place))
 
 pub quoted-text : {had : Option (List ℕ)} {d d' : List ℕ} {n : ℕ} → TextWritten had d n d' → TextOfSome (take n d')
-quoted-text {had} {d} {d'} {n} q = record { input = q.input; is-text = text_written had d d' n q }
+quoted-text {had} {d} {d'} {n} q = record { input = q.input; is_text = text_written had d d' n q }
 
 -- the place behind the text is within the list
 pub counts : {had : Option (List ℕ)} {d d' : List ℕ} {n : ℕ} → TextWritten had d n d' → (n ≤ length d') × (n ≡ length (take n d'))

@@ -40,7 +40,7 @@ Answered had d answer.TheVariants.Unread d' = d' ≡ d
 -- the text of some input
 pub record TextOfSome (t : List ℕ) : Type 0 where
   pub input : List ℕ
-  pub is-text : t ≡ feequote input
+  pub is_text : t ≡ feequote input
 
 -- the text of some input, of all that was left to read, came behind what was written before
 pub record Quoted (had before after : Option (List ℕ)) : Type 0 where

@@ -15,8 +15,8 @@ pub fn from_u64(n: u64) -> f64
 // The whole part of x, for x above 0 and below 2^52. Adding 2^52 rounds x to a whole number at most a half away; where
 // that is above x, one less is the whole part.
 fn part_below(x: f64) -> u64
-    requires t { T (lt (fin false 0 (pos 0)) x) }
-    requires t_2 { T (lt x (fin false 1 (pos 52))) }
+    requires above_zero { T (lt (fin false 0 (pos 0)) x) }
+    requires below_whole { T (lt x (fin false 1 (pos 52))) }
     ensures { result ≡ to_u64 x }
 {
     let k = x + 4503599627370496.0 - 4503599627370496.0;
@@ -97,8 +97,8 @@ pub fn clamp(x: f64, lo: f64, hi: f64) -> f64
 
 // The whole part of x as a float, for x above 0 and below 2^52, by the same sum as in `part_below`.
 fn whole_below(x: f64) -> f64
-    requires t { T (lt (fin false 0 (pos 0)) x) }
-    requires t_2 { T (lt x (fin false 1 (pos 52))) }
+    requires above_zero { T (lt (fin false 0 (pos 0)) x) }
+    requires below_whole { T (lt x (fin false 1 (pos 52))) }
     ensures { result ≡ of_u64 (to_u64 x) }
 {
     let k = x + 4503599627370496.0 - 4503599627370496.0;

@@ -248,8 +248,8 @@ pub fn finish(
 
 // A whole input.
 pub fn read(input: &[u8]) -> Board
-    ensures result_value { kept_of result ≡ finished (fed (state_of new_reader zeros zeros zeros zeros) input.now) }
-    ensures result_value_2 { seen (kept_of result) ≡ parse input.now }
+    ensures kept { kept_of result ≡ finished (fed (state_of new_reader zeros zeros zeros zeros) input.now) }
+    ensures parsed { seen (kept_of result) ≡ parse input.now }
 {
     let mut depths = [0u32; 64];
     let mut rates = [0u64; 64];

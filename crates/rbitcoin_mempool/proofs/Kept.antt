@@ -77,14 +77,14 @@ module _ (w : Windows) (g : Good w) where
       let s = w.state in
       let v = g.valid in
       let i = v.within in
-      let j = v.hurdles-fit in
+      let j = v.hurdles_fit in
       let e : held (at s to s.count) (moved_to to w).hurdles ≡ held s w.hurdles = held_moved s w.hurdles to (omega arith) (omega arith) in
       record {
         valid = moved_valid w v to p;
         holds =
             record {
-              befores-hold = rw e (move_holds before_at nan s (held s w.hurdles) w.befores to p i v.befores-fit g.holds.befores-hold);
-              aheads-hold = rw e (move_holds ahead_at 0 s (held s w.hurdles) w.aheads to p i v.aheads-fit g.holds.aheads-hold);
+              befores-hold = rw e (move_holds before_at nan s (held s w.hurdles) w.befores to p i v.befores_fit g.holds.befores-hold);
+              aheads-hold = rw e (move_holds ahead_at 0 s (held s w.hurdles) w.aheads to p i v.aheads_fit g.holds.aheads-hold);
             };
       }
 
@@ -116,15 +116,15 @@ module _ (w : Windows) (x : ℕ) (h : HoldsBoth w) where
       let s = w.state in
       let v = o.valid in
       let i = o.room in
-      let j = v.hurdles-fit in
+      let j = v.hurdles_fit in
       let n : length (held s w.hurdles) ≡ s.count = length-held s w.hurdles (omega arith) in
       let e : held (at s s.start (s.count + 1)) (set w.hurdles (s.start + s.count) x) ≡ held s w.hurdles ++ (x ∷ []) = held_back s w.hurdles x (omega arith) in
       record {
         valid = pairs_valid true (store_back x w) (store_valid w x true o);
         holds =
             record {
-              befores-hold = rw e (back_holds before_at nan s (held s w.hurdles) w.befores before_windowed x i v.befores-fit n h.befores-hold);
-              aheads-hold = rw e (back_holds ahead_at 0 s (held s w.hurdles) w.aheads ahead_windowed x i v.aheads-fit n h.aheads-hold);
+              befores-hold = rw e (back_holds before_at nan s (held s w.hurdles) w.befores before_windowed x i v.befores_fit n h.befores-hold);
+              aheads-hold = rw e (back_holds ahead_at 0 s (held s w.hurdles) w.aheads ahead_windowed x i v.aheads_fit n h.aheads-hold);
             };
       }
 
@@ -135,15 +135,15 @@ module _ (w : Windows) (x : ℕ) (h : HoldsBoth w) where
       let v = o.valid in
       let i = o.room in
       let q = v.within in
-      let j = v.hurdles-fit in
+      let j = v.hurdles_fit in
       let n : length (held s w.hurdles) ≡ s.count = length-held s w.hurdles (omega arith) in
       let e : held (at s (s.start - 1) (s.count + 1)) (set w.hurdles (s.start - 1) x) ≡ x ∷ held s w.hurdles = held_front s w.hurdles x i (omega arith) in
       record {
         valid = pairs_valid false (store_front x w) (store_valid w x false o);
         holds =
             record {
-              befores-hold = rw e (front_holds before_at nan s (held s w.hurdles) w.befores before_windowed x i q v.befores-fit n h.befores-hold);
-              aheads-hold = rw e (front_holds ahead_at 0 s (held s w.hurdles) w.aheads ahead_windowed x i q v.aheads-fit n h.aheads-hold);
+              befores-hold = rw e (front_holds before_at nan s (held s w.hurdles) w.befores before_windowed x i q v.befores_fit n h.befores-hold);
+              aheads-hold = rw e (front_holds ahead_at 0 s (held s w.hurdles) w.aheads ahead_windowed x i q v.aheads_fit n h.aheads-hold);
             };
       }
 
@@ -172,13 +172,13 @@ module _ (w : Windows) (g : Good w) (p : 0 < w.state.count) where
       let s = w.state in
       let v = g.valid in
       let i = v.within in
-      let j = v.hurdles-fit in
+      let j = v.hurdles_fit in
       let gs = held (at s s.start (s.count - 1)) w.hurdles in
       let x = get_or (drop s.start w.hurdles) (s.count - 1) 0 in
       let e : held s w.hurdles ≡ gs ++ (x ∷ []) = held_all-back s w.hurdles p (omega arith) in
       let n : length gs ≡ s.count - 1 = length-held (at s s.start (s.count - 1)) w.hurdles (omega arith) in
       record {
-        valid = record { few = v.few; small = v.small; within = omega arith; hurdles-fit = j; befores-fit = v.befores-fit; aheads-fit = v.aheads-fit };
+        valid = record { few = v.few; small = v.small; within = omega arith; hurdles_fit = j; befores_fit = v.befores_fit; aheads_fit = v.aheads_fit };
         holds =
             record {
               befores-hold = pop-back_holds before_at nan s (held s w.hurdles) w.befores before_windowed gs x e n p g.holds.befores-hold;
@@ -191,13 +191,13 @@ module _ (w : Windows) (g : Good w) (p : 0 < w.state.count) where
       let s = w.state in
       let v = g.valid in
       let i = v.within in
-      let j = v.hurdles-fit in
+      let j = v.hurdles_fit in
       let gs = held (at s (s.start + 1) (s.count - 1)) w.hurdles in
       let x = get_or w.hurdles s.start 0 in
       let e : held s w.hurdles ≡ x ∷ gs = held_all_front s w.hurdles p (omega arith) in
       let n : length gs ≡ s.count - 1 = length-held (at s (s.start + 1) (s.count - 1)) w.hurdles (omega arith) in
       record {
-        valid = record { few = v.few; small = v.small; within = omega arith; hurdles-fit = j; befores-fit = v.befores-fit; aheads-fit = v.aheads-fit };
+        valid = record { few = v.few; small = v.small; within = omega arith; hurdles_fit = j; befores_fit = v.befores_fit; aheads_fit = v.aheads_fit };
         holds =
             record {
               befores-hold = pop_front_holds before_at nan s (held s w.hurdles) w.befores before_windowed gs x e n p g.holds.befores-hold;
@@ -239,10 +239,10 @@ empty_good w v e =
     }
 
 pub good-stored : (w : Windows) → Good w → WellStored w
-good-stored w g = let i = g.valid.within in let j = g.valid.hurdles-fit in holds-stored w (omega arith) g.holds
+good-stored w g = let i = g.valid.within in let j = g.valid.hurdles_fit in holds-stored w (omega arith) g.holds
 
 pub stored_good : (w : Windows) → ValidIn w → WellStored w → Good w
-stored_good w v h = let i = v.within in let j = v.hurdles-fit in record { valid = v; holds = stored_holds w (omega arith) h }
+stored_good w v h = let i = v.within in let j = v.hurdles_fit in record { valid = v; holds = stored_holds w (omega arith) h }
 
 -- what one call leaves, of any well stored windows
 pub push-back-stored : (w : Windows) (x : ℕ) → ValidIn w → WellStored w → WellStored (push_back_of x w)

@@ -27,13 +27,13 @@ module _ (w : Windows) (v : ValidIn w) where
   moved_valid to p =
       let s = w.state in
       let i = v.within in
-      let j = v.hurdles-fit in
+      let j = v.hurdles_fit in
       let u : Valid (at s to s.count) (length w.hurdles) (length w.befores) (length w.aheads)
-      = record { few = v.few; small = v.small; within = p; hurdles-fit = j; befores-fit = v.befores-fit; aheads-fit = v.aheads-fit } in
+      = record { few = v.few; small = v.small; within = p; hurdles_fit = j; befores_fit = v.befores_fit; aheads_fit = v.aheads_fit } in
       valid_same _ u
       (length_moved w.hurdles to s.start s.count (omega arith) (omega arith))
-      (length_regions s.capacity to s.start s.count s.tracked w.befores p i v.befores-fit)
-      (length_regions s.capacity to s.start s.count s.tracked w.aheads p i v.aheads-fit)
+      (length_regions s.capacity to s.start s.count s.tracked w.befores p i v.befores_fit)
+      (length_regions s.capacity to s.start s.count s.tracked w.aheads p i v.aheads_fit)
 
 -- windows with room for one more after the newest, or before the oldest
 abbrev pub Room : Bool → AnalogHistory → Type 0
@@ -83,7 +83,7 @@ module _ (w : Windows) (h : ℕ) where
   store_valid newest o =
       let v = o.valid in
       let u : Valid (at w.state (first_of newest w.state) (w.state.count + 1)) (length w.hurdles) (length w.befores) (length w.aheads)
-      = record { few = v.few; small = v.small; within = first-within newest o.room v.within; hurdles-fit = v.hurdles-fit; befores-fit = v.befores-fit; aheads-fit = v.aheads-fit } in
+      = record { few = v.few; small = v.small; within = first-within newest o.room v.within; hurdles_fit = v.hurdles_fit; befores_fit = v.befores_fit; aheads_fit = v.aheads_fit } in
       subst ValidIn (stored_at newest _ _ _ refl refl refl) (valid_same _ u (length-set w.hurdles (place_of newest w.state) h) refl refl)
     where
       first-within : (b : Bool) → Room b w.state → w.state.start + w.state.count ≤ w.state.capacity → first_of b w.state + (w.state.count + 1) ≤ w.state.capacity

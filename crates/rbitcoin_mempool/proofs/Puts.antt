@@ -48,8 +48,8 @@ lies s newest d t h b a v k e q =
       some = l.0;
       more = m;
       fits = let x : t + ahead_of (target_at s d) ≤ s.count = rw q w.1 in omega arith;
-      in-befores = let x : t + ahead_of (target_at s d) ≤ s.count = rw q w.1 in let y = v.befores-fit in omega arith;
-      in-aheads = let x : t + ahead_of (target_at s d) ≤ s.count = rw q w.1 in let y = v.aheads-fit in omega arith;
+      in-befores = let x : t + ahead_of (target_at s d) ≤ s.count = rw q w.1 in let y = v.befores_fit in omega arith;
+      in-aheads = let x : t + ahead_of (target_at s d) ≤ s.count = rw q w.1 in let y = v.aheads_fit in omega arith;
     }
 
 -- a part of the first c elements

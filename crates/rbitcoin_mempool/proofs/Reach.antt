@@ -8,7 +8,7 @@ use Rattle.slices.specs.Search.{seek}
 use Rattle.slices.proofs.Search.{sought}
 use Rattle.rbitcoin_mempool.specs.declared.fee_analog.history.AnalogHistory.{AnalogHistory}
 use Rattle.rbitcoin_mempool.specs.Pairs.{ahead_of, pairs_of, windows_in}
-use Rattle.rbitcoin_mempool.specs.Reached.{Reached, by-new, by_pop-back, by_pop_front, by_push-back, by_push_front, by_rebuild}
+use Rattle.rbitcoin_mempool.specs.Reached.{Reached, by_new, by_pop_back, by_pop_front, by_push_back, by_push_front, by_rebuild}
 use Rattle.rbitcoin_mempool.specs.Scan.{answer_after, rate_among, rate_in, rate_sat_kvb}
 use Rattle.rbitcoin_mempool.specs.Windows.{Valid, WellStored, Windows, find_target, fresh, held_in, open_refusal, opened, pair_count, state_refusal, stored_pairs, target_at, unopened, windows}
 use Rattle.rbitcoin_mempool.proofs.Grown.{pairs-counted}
@@ -20,7 +20,7 @@ use Rattle.rbitcoin_mempool.proofs.Scans.{counted_tracked, tracked_pairs}
 
 unopened_valid : (h b a : ℕ) → Valid unopened h b a
 unfolding unopened
-unopened_valid h b a = record { few = omega arith; small = omega arith; within = omega arith; hurdles-fit = omega arith; befores-fit = omega arith; aheads-fit = omega arith }
+unopened_valid h b a = record { few = omega arith; small = omega arith; within = omega arith; hurdles_fit = omega arith; befores_fit = omega arith; aheads_fit = omega arith }
 
 -- an opening, accepted or refused, holds nothing
 open_good : (targets : List ℕ) (capacity : ℕ) (hs : List ℕ) (bs : List Float) (ds : List ℕ) → Good (windows (opened targets capacity (length hs) (length bs) (length ds)) hs bs ds)
@@ -32,10 +32,10 @@ open_good targets capacity hs bs ds =
     (zero_or_not (open_refusal targets capacity (length hs) (length bs) (length ds)))
 
 pub reached_good : {w : Windows} → Reached w → Good w
-reached_good (by-new targets capacity hs bs ds) = open_good targets capacity hs bs ds
-reached_good (by_push-back u x r) = push-back_good u x (reached_good r)
+reached_good (by_new targets capacity hs bs ds) = open_good targets capacity hs bs ds
+reached_good (by_push_back u x r) = push-back_good u x (reached_good r)
 reached_good (by_push_front u x r) = push_front_good u x (reached_good r)
-reached_good (by_pop-back u r) = pop-back_good u (reached_good r)
+reached_good (by_pop_back u r) = pop-back_good u (reached_good r)
 reached_good (by_pop_front u r) = pop_front_good u (reached_good r)
 reached_good (by_rebuild u xs r) = rebuild_good xs u (reached_good r)
 
@@ -52,7 +52,7 @@ well-stored w h = h
 -- so `pairs` counts the pairs of the stored hurdles, and a rate is one of the hurdles alone
 module _ (w : Windows) (r : Reached w) (n : ℕ) where
   count_held : length (held_in w) ≡ w.state.count
-  count_held = let v = (reached_good r).valid in let i = v.within in let j = v.hurdles-fit in length-held w.state w.hurdles (omega arith)
+  count_held = let v = (reached_good r).valid in let i = v.within in let j = v.hurdles_fit in length-held w.state w.hurdles (omega arith)
 
   pub reached_pairs : find_target w.state n < w.state.tracked → pair_count w.state n ≡ length (pairs_of (held_in w) n)
   reached_pairs h = sym (counted_tracked w.state n h) ∙ ap (λ c. windows_in c n) (sym count_held) ∙ sym (pairs-counted (held_in w) n)

@@ -26,7 +26,7 @@ all_good [] w g = g
 all_good (x ∷ xs) w g = all_good xs (push_back_of x w) (push-back_good w x g)
 
 held-count : (w : Windows) → Good w → length (held_in w) ≡ w.state.count
-held-count w g = let v = g.valid in let i = v.within in let j = v.hurdles-fit in length-held w.state w.hurdles (omega arith)
+held-count w g = let v = g.valid in let i = v.within in let j = v.hurdles_fit in length-held w.state w.hurdles (omega arith)
 
 -- hurdles for which there is room are all held
 all_held : (xs : List ℕ) (w : Windows) → Good w → length (held_in w) + length xs ≤ w.state.capacity → held_in (push_all xs w) ≡ held_in w ++ xs
@@ -55,7 +55,7 @@ module _ (xs : List ℕ) (w : Windows) where
     empty_valid : ValidIn (emptied w)
     empty_valid =
         let v = (rebuild-accepted (length xs) w.state _ _ _ z).0 in
-        record { few = v.few; small = v.small; within = omega arith; hurdles-fit = v.hurdles-fit; befores-fit = v.befores-fit; aheads-fit = v.aheads-fit }
+        record { few = v.few; small = v.small; within = omega arith; hurdles_fit = v.hurdles_fit; befores_fit = v.befores_fit; aheads_fit = v.aheads_fit }
 
     empty-is_good : Good (emptied w)
     empty-is_good = empty_good (emptied w) empty_valid refl

@@ -71,9 +71,9 @@ lent s h b a e =
       few = v.few;
       small = v.small;
       within = v.within;
-      hurdles-fit = ltb-false _ _ h1.0;
-      befores-fit = ltb-false _ _ h2.0;
-      aheads-fit = ltb-false _ _ h3.0;
+      hurdles_fit = ltb-false _ _ h1.0;
+      befores_fit = ltb-false _ _ h2.0;
+      aheads_fit = ltb-false _ _ h3.0;
     }
 
 pub record Open (s : AnalogHistory) (h b a : ℕ) : Type 0 where
@@ -115,7 +115,7 @@ module _ (s : AnalogHistory) (h b a : ℕ) (v : Valid s h b a) where
 
   valid-size : size_refusal s h b a ≡ 0
   unfolding size_refusal
-  valid-size = rw (le-ltb _ _ v.hurdles-fit, le-ltb _ _ v.befores-fit, le-ltb _ _ v.aheads-fit)
+  valid-size = rw (le-ltb _ _ v.hurdles_fit, le-ltb _ _ v.befores_fit, le-ltb _ _ v.aheads_fit)
 
   valid-lent : lent_refusal s h b a ≡ 0
   unfolding lent_refusal

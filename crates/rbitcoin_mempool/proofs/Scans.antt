@@ -41,9 +41,9 @@ lying s d h b a z lookback n v k w y e f =
     let q : d * s.capacity + s.capacity ≤ 1048576 = region-fits d s.tracked s.capacity k v.few v.small in
     let m = ahead-least (target_at s d) in
     let i = v.within in
-    let j = v.befores-fit in
-    let l = v.aheads-fit in
-    let o = v.hurdles-fit in
+    let j = v.befores_fit in
+    let l = v.aheads_fit in
+    let o = v.hurdles_fit in
     record { fits = omega arith; in-befores = omega arith; in-aheads = omega arith; in-scratch = omega arith; lookback-before = omega arith; in-hurdles = omega arith }
 
 module _ (w : Windows) (d first n : ℕ) (z : ℕ) (y : Lying w.state d (length w.hurdles) (length w.befores) (length w.aheads) z first n)

@@ -12,7 +12,7 @@ use Rattle.rbitcoin_mempool.proofs.Values.{back-kept, back-moved, front_kept, fr
 module _ (w : Windows) (v : ValidIn w) where
   move-held : (to : ℕ) → to + w.state.count ≤ w.state.capacity → held_in (moved_to to w) ≡ held_in w
   unfolding moved_to
-  move-held to p = let i = v.within in let j = v.hurdles-fit in held_moved w.state w.hurdles to (omega arith) (omega arith)
+  move-held to p = let i = v.within in let j = v.hurdles_fit in held_moved w.state w.hurdles to (omega arith) (omega arith)
 
   back-room-held : w.state.count < w.state.capacity → held_in (room_back w) ≡ held_in w
   back-room-held r =
@@ -30,11 +30,11 @@ module _ (w : Windows) (v : ValidIn w) where
 
 store-back-held : (w : Windows) (x : ℕ) → OpenAt true w → held_in (with_pairs true (store_back x w)) ≡ held_in w ++ (x ∷ [])
 unfolding with_pairs store_back
-store-back-held w x o = let i = o.room in let j = o.valid.hurdles-fit in held_back w.state w.hurdles x (omega arith)
+store-back-held w x o = let i = o.room in let j = o.valid.hurdles_fit in held_back w.state w.hurdles x (omega arith)
 
 store_front-held : (w : Windows) (x : ℕ) → OpenAt false w → held_in (with_pairs false (store_front x w)) ≡ x ∷ held_in w
 unfolding with_pairs store_front
-store_front-held w x o = let i = o.room in let k = o.valid.within in let j = o.valid.hurdles-fit in held_front w.state w.hurdles x i (omega arith)
+store_front-held w x o = let i = o.room in let k = o.valid.within in let j = o.valid.hurdles_fit in held_front w.state w.hurdles x i (omega arith)
 
 module _ (w : Windows) (x : ℕ) (z : push_refusal_of w ≡ 0) where
   pub push-back-held : held_in (push_back_of x w) ≡ push_back x (held_in w)
@@ -68,7 +68,7 @@ module _ (w : Windows) (v : ValidIn w) where
       ⊎_elim
       (λ n. ap (λ (s : _). held s w.hurdles) (sym (popped-none w.state w.state.start state_taken n)) ∙ none-held n ∙ sym (ap pop_back (none-held n)))
       (λ p. let i = v.within in
-      let j = v.hurdles-fit in
+      let j = v.hurdles_fit in
       ap (λ (s : _). held s w.hurdles) (sym (popped-some w.state w.state.start state_taken p))
       ∙ drop-last (held_in w) _ _ (held_all-back w.state w.hurdles (omega arith) (omega arith)))
       (zero_or_not w.state.count)
@@ -78,20 +78,20 @@ module _ (w : Windows) (v : ValidIn w) where
       ⊎_elim
       (λ n. ap (λ (s : _). held s w.hurdles) (sym (popped-none w.state (w.state.start + 1) state_taken n)) ∙ none-held n ∙ sym (ap pop_front (none-held n)))
       (λ p. let i = v.within in
-      let j = v.hurdles-fit in
+      let j = v.hurdles_fit in
       ap (λ (s : _). held s w.hurdles) (sym (popped-some w.state (w.state.start + 1) state_taken p))
       ∙ sym (ap pop_front (held_all_front w.state w.hurdles (omega arith) (omega arith))))
       (zero_or_not w.state.count)
 
 -- ---- no call changes the targets or the capacity
 pub set-up : (s : AnalogHistory) (start count : ℕ) → SetUpAs s (at s start count)
-set-up s start count = record { same-targets = refl; same_tracked = refl; same_capacity = refl }
+set-up s start count = record { same_targets = refl; same_tracked = refl; same_capacity = refl }
 
 pub same-set-up : (s : AnalogHistory) → SetUpAs s s
-same-set-up s = record { same-targets = refl; same_tracked = refl; same_capacity = refl }
+same-set-up s = record { same_targets = refl; same_tracked = refl; same_capacity = refl }
 
 pub set-up_then : {s t u : AnalogHistory} → SetUpAs s t → SetUpAs t u → SetUpAs s u
-set-up_then h k = record { same-targets = k.same-targets ∙ h.same-targets; same_tracked = k.same_tracked ∙ h.same_tracked; same_capacity = k.same_capacity ∙ h.same_capacity }
+set-up_then h k = record { same_targets = k.same_targets ∙ h.same_targets; same_tracked = k.same_tracked ∙ h.same_tracked; same_capacity = k.same_capacity ∙ h.same_capacity }
 
 pub push-back-set-up : (w : Windows) (x : ℕ) → SetUpAs w.state (push_back_of x w).state
 unfolding push_back_of with_pairs store_back room_back moved_to

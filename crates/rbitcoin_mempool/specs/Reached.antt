@@ -12,15 +12,15 @@ pop_front_in w = windows (pop_front_of w.state) w.hurdles w.befores w.aheads
 
 -- t is set up as s: the targets and the capacity, which an opening sets
 pub record SetUpAs (s t : AnalogHistory) : Type 0 where
-  pub same-targets : t.targets ≡ s.targets
+  pub same_targets : t.targets ≡ s.targets
   pub same_tracked : t.tracked ≡ s.tracked
   pub same_capacity : t.capacity ≡ s.capacity
 
 -- from an opening, a refused one too, by any calls, refused ones too, nobody else writing to the memory
 pub data Reached : Windows → Type 0 where
-  by-new : (targets : List ℕ) (capacity : ℕ) (hs : List ℕ) (bs : List Float) (ds : List ℕ) → Reached (windows (opened targets capacity (length hs) (length bs) (length ds)) hs bs ds)
-  by_push-back : (w : Windows) (x : ℕ) → Reached w → Reached (push_back_of x w)
+  by_new : (targets : List ℕ) (capacity : ℕ) (hs : List ℕ) (bs : List Float) (ds : List ℕ) → Reached (windows (opened targets capacity (length hs) (length bs) (length ds)) hs bs ds)
+  by_push_back : (w : Windows) (x : ℕ) → Reached w → Reached (push_back_of x w)
   by_push_front : (w : Windows) (x : ℕ) → Reached w → Reached (push_front_of x w)
-  by_pop-back : (w : Windows) → Reached w → Reached (pop_back_in w)
+  by_pop_back : (w : Windows) → Reached w → Reached (pop_back_in w)
   by_pop_front : (w : Windows) → Reached w → Reached (pop_front_in w)
   by_rebuild : (w : Windows) (xs : List ℕ) → Reached w → Reached (rebuilt_of xs w)

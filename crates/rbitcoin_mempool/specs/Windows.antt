@@ -189,6 +189,6 @@ pub record Valid (s : AnalogHistory) (h b a : ℕ) : Type 0 where
   pub few : s.tracked ≤ 16
   pub small : s.capacity ≤ 65536
   pub within : s.start + s.count ≤ s.capacity
-  pub hurdles-fit : s.capacity ≤ h
-  pub befores-fit : s.tracked * s.capacity ≤ b
-  pub aheads-fit : s.tracked * s.capacity ≤ a
+  pub hurdles_fit : s.capacity ≤ h
+  pub befores_fit : s.tracked * s.capacity ≤ b
+  pub aheads_fit : s.tracked * s.capacity ≤ a

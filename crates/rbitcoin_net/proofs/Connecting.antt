@@ -104,7 +104,7 @@ module _ (h p : ℕ) (s : FeeHistory) (m : Lent) (x : Placed s m h p) where
       λ i. with_hashes (b i) (unkept (g i))
 
   left_capacity : left.analog.capacity ≡ s.analog.capacity
-  left_capacity = (drop-set-up h m.rows m.hashes s).same-windows.same_capacity
+  left_capacity = (drop-set-up h m.rows m.hashes s).same_windows.same_capacity
 
   left-start : left.start ≡ s.start
   unfolding drop_from cut_at

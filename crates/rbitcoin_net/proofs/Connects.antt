@@ -75,7 +75,7 @@ module _ (h : ℕ) (b : HistoricalFeeBlock) (hash : Option (List ℕ)) (small : 
   left-count = refl
 
   left_capacity : left.analog.capacity ≡ s.analog.capacity
-  left_capacity = (drop-set-up h m z s).same-windows.same_capacity
+  left_capacity = (drop-set-up h m z s).same_windows.same_capacity
 
   parts : Parts (λ i. (row_at m i).key) h s.start (s.start + s.count) (place_of m.heights s h)
   parts = place_parts m s h x.ascends

@@ -115,7 +115,7 @@ module _ (m : Rows) (z : Hashes) (us : List ℕ) (bs : List Float) (ds : List �
       let w = state_was in
       let p = parts in
       let q = hash-place in
-      let c = (drop-set-up k m z s).same-windows.same_capacity in
+      let c = (drop-set-up k m z s).same_windows.same_capacity in
       sym (state_taken (drop_from k m z s) 0 (sym (valid-state left.analog _ _ _ left_good.valid)) refl (omega (arith, p.low, p.high, w.rows)) (omega (arith, q.high, w.hashes)))
 
   low-high : held_rows m s ≡ tabulate (row_at m) s.start (place - s.start) ++ tabulate (row_at m) place dropped
@@ -136,7 +136,7 @@ module _ (m : Rows) (z : Hashes) (us : List ℕ) (bs : List Float) (ds : List �
       let p = parts in
       let q = hash-place in
       record {
-        lent = lent_again s (drop_from k m z s) memory (drop-set-up k m z s).same-windows state-is x.lent;
+        lent = lent_again s (drop_from k m z s) memory (drop-set-up k m z s).same_windows state-is x.lent;
         ascends = ascends_of (row_at m) (place - s.start) s.start (λ i j l o r. ascends-at (row_at m) s.count s.start x.ascends i j l o (omega (arith, p.low, p.high)));
         hashes_ascend = ascends_of (hash_at z) (hash_place k (hash_list s.hashes z)) 0 (λ i j l o r. ascends-at (hash_at z) s.hashes 0 x.hashes_ascend i j l o (omega (arith, q.high)));
         stored = good-stored (windows_of left memory) left_good;

@@ -93,7 +93,7 @@ module _ (m : Rows) (z : Hashes) (us : List ℕ) (bs : List Float) (ds : List �
       total = saturating_sub s.txstat_bytes (get_or m.sizes i 0)
 
       go : (b : Bool) → view (with_sums (cond b (pop_of s.analog) s.analog) total s) memory ≡ set_hurdles (cond b (pop (held_in (windows_of s memory))) (held_in (windows_of s memory))) (set_total total (view s memory))
-      go true = view_sums (pop_of s.analog) total (pop (held_in (windows_of s memory))) s u.same_tracked u.same-targets h
+      go true = view_sums (pop_of s.analog) total (pop (held_in (windows_of s memory))) s u.same_tracked u.same_targets h
       go false = view_sums s.analog total (held_in (windows_of s memory)) s refl refl refl
 
   forget-view : (i : ℕ) (s : FeeHistory) → Good (windows_of s memory) → view (forget_row pop_back_of (get_or m.marks i 0) (get_or m.sizes i 0) s) memory ≡ forget pop_back (block_at m i) (view s memory)

@@ -65,7 +65,7 @@ module _ (m : Rows) (us : List ℕ) (bs : List Float) (ds : List ℕ) where
     rows_are = λ i. tabulate (row_at m) (next_start m us bs ds s z fit i) (next-count m us bs ds s z fit n c i)
 
     capacity-is : next.state.analog.capacity ≡ s.analog.capacity
-    capacity-is = (evict-row-set-up _ _ _ (hashed s z)).same-windows.same_capacity
+    capacity-is = (evict-row-set-up _ _ _ (hashed s z)).same_windows.same_capacity
 
     stale-is : next.state.analog_stale ≡ s.analog_stale
     unfolding evict_row forget_row

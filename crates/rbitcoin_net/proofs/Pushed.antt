@@ -65,7 +65,7 @@ module _ (s : FeeHistory) (m : Lent) (x : Sound s m) where
   unfolding held_rows
   windows-room l st =
       let v = (serves s m x.lent).windows in
-      let a : length (held_in (windows_of s m)) ≡ s.analog.count = length-held s.analog m.hurdles (omega (arith, v.within, v.hurdles-fit)) in
+      let a : length (held_in (windows_of s m)) ≡ s.analog.count = length-held s.analog m.hurdles (omega (arith, v.within, v.hurdles_fit)) in
       let b : length (held_in (windows_of s m)) ≡ length (hurdles_of (held_rows m.rows s)) = ap length (x.hurdles st) in
       let c = hurdles-few (held_rows m.rows s) in
       let d : length (held_rows m.rows s) ≡ s.count = tabulate-length (row_at m.rows) s.start s.count in

@@ -59,7 +59,7 @@ module _ (z : ℕ) (m : Rows) (x : Rated) where
   fresh-scratch a us bs ds e h d l = ap (λ w. rate_from w z d) e ∙ h d (subst (λ n. d < n) (fresh_tracked a us bs ds e) l)
 
   pub rates_tracked : (y : Rated) → y ≡ rates_in z m x → y.state.analog.tracked ≡ x.state.analog.tracked
-  rates_tracked y e = ap (λ (r : Rated). r.state.analog.tracked) e ∙ (rates-set-up z m x).same-windows.same_tracked
+  rates_tracked y e = ap (λ (r : Rated). r.state.analog.tracked) e ∙ (rates-set-up z m x).same_windows.same_tracked
 
 -- ---- kept rates are the rates
 
@@ -171,7 +171,7 @@ module _ (m : Rows) (z : Hashes) (x : Rated) (k : Sound x.state (lent_to m z x))
     few = refreshed_holds.good.valid.few
 
     targets-same : tabulate (target_at (refreshed_in m x).state) 0 (refreshed_in m x).state.tracked ≡ tabulate (target_at x.state.analog) 0 x.state.analog.tracked
-    targets-same = λ i. tabulate (λ d. get_or (w-set-up.same-targets i) d 0) 0 (w-set-up.same_tracked i)
+    targets-same = λ i. tabulate (λ d. get_or (w-set-up.same_targets i) d 0) 0 (w-set-up.same_tracked i)
 
     left-answers : answers_in (left p).state ≡ answered none (view x.state (lent_to m z x))
     unfolding view

@@ -209,7 +209,7 @@ serves-lent s m v =
       state = sym (state_taken s 0 (sym (valid-state s.analog _ _ _ w)) refl v.rows-within v.hashes-few);
       rows = rw (le-ltb _ _ r.heights, le-ltb _ _ r.marks, le-ltb _ _ r.rates, le-ltb _ _ r.sizes);
       hashes = rw (le-ltb _ _ v.heights-reach, le-ltb _ _ v.bytes-reach);
-      windows = rw (le-ltb _ _ w.hurdles-fit, le-ltb _ _ w.befores-fit, le-ltb _ _ w.aheads-fit);
+      windows = rw (le-ltb _ _ w.hurdles_fit, le-ltb _ _ w.befores_fit, le-ltb _ _ w.aheads_fit);
     }
 
 -- a call that lends the rows and is not refused: nor are the windows

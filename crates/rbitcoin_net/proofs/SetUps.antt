@@ -25,10 +25,10 @@ use Rattle.rbitcoin_net.specs.Rates.{Rated, answered_from, rates_in, rates_refus
 use Rattle.rbitcoin_net.specs.Runs.{Call, SetUpAs, ask, call_in, connect, cut, other, preload, rated_of, run_in}
 
 unchanged : (s : FeeHistory) → SetUpAs s s
-unchanged s = record { same-budget = refl; same-windows = same-set-up s.analog }
+unchanged s = record { same_budget = refl; same_windows = same-set-up s.analog }
 
 followed : {s t u : FeeHistory} → SetUpAs s t → SetUpAs t u → SetUpAs s u
-followed h k = record { same-budget = k.same-budget ∙ h.same-budget; same-windows = set-up_then h.same-windows k.same-windows }
+followed h k = record { same_budget = k.same_budget ∙ h.same_budget; same_windows = set-up_then h.same_windows k.same_windows }
 
 chosen : {A : Type 0} (f : A → FeeHistory) (b : Bool) (t u : A) {s : FeeHistory} → SetUpAs s (f t) → SetUpAs s (f u) → SetUpAs s (f (cond b t u))
 chosen f true t u h k = h
@@ -38,7 +38,7 @@ chosen f false t u h k = k
 module _ (pop : AnalogHistory → AnalogHistory) (p : (a : AnalogHistory) → WindowsSetUpAs a (pop a)) where
   forget-set-up : (mark size : ℕ) (s : FeeHistory) → SetUpAs s (forget_row pop mark size s)
   unfolding forget_row
-  forget-set-up mark size s = record { same-budget = refl; same-windows = go (eqb mark 1 && not s.analog_stale) }
+  forget-set-up mark size s = record { same_budget = refl; same_windows = go (eqb mark 1 && not s.analog_stale) }
     where
       go : (b : Bool) → WindowsSetUpAs s.analog (cond b (pop s.analog) s.analog)
       go true = p s.analog
@@ -53,19 +53,19 @@ pub drop-set-up : (k : ℕ) (m : Rows) (z : Hashes) (s : FeeHistory) → SetUpAs
 unfolding drop_from cut_at
 drop-set-up k m z s =
     let h = rows-set-up pop_back_of pop-back-set-up m _ (place_of m.heights s k) s in
-    record { same-budget = h.same-budget; same-windows = h.same-windows }
+    record { same_budget = h.same_budget; same_windows = h.same_windows }
 
 pub evict-row-set-up : (height mark size : ℕ) (x : Hashed) → SetUpAs x.state (evict_row height mark size x).state
 unfolding evict_row
 evict-row-set-up height mark size x =
     let h = forget-set-up pop_front_of pop_front-set-up mark size x.state in
-    record { same-budget = h.same-budget; same-windows = h.same-windows }
+    record { same_budget = h.same_budget; same_windows = h.same_windows }
 
 evict-rows-set-up : (m : Rows) (n : ℕ) (x : Hashed) → SetUpAs x.state (evict_rows m n x).state
 unfolding evict_rows
 evict-rows-set-up m zero x =
     chosen (λ (y : Hashed). y.state) (ltb x.state.budget x.state.txstat_bytes) _ x
-    (record { same-budget = refl; same-windows = same-set-up x.state.analog })
+    (record { same_budget = refl; same_windows = same-set-up x.state.analog })
     (unchanged x.state)
 evict-rows-set-up m (suc n) x =
     chosen (λ (y : Hashed). y.state) (ltb x.state.budget x.state.txstat_bytes) _ x
@@ -77,7 +77,7 @@ store-set-up : (q h : ℕ) (b : HistoricalFeeBlock) (hash : Option (List ℕ)) (
 unfolding store_in hold_at evict_in
 store-set-up q h b hash x =
     let e = evict-rows-set-up _ _ _ in
-    record { same-budget = e.same-budget; same-windows = e.same-windows }
+    record { same_budget = e.same_budget; same_windows = e.same_windows }
 
 pub rate-set-up : (push : ℕ → Windows → Windows) → ((w : Windows) (x : ℕ) → WindowsSetUpAs w.state (push x w).state) → (rate : Option ℕ) (stale : Bool) (w : Windows) → WindowsSetUpAs w.state (push_rate push rate stale w).state
 unfolding push_rate
@@ -103,7 +103,7 @@ insert-set-up h b hash x =
     let d = drop-set-up h m.rows m.hashes x.state in
     let r = rate-set-up push_back_of push-back-set-up (hurdle_of b) s.analog_stale (windows_of s m) in
     let e = store-set-up s.count h b hash _ in
-    followed d (record { same-budget = e.same-budget; same-windows = set-up_then r e.same-windows })
+    followed d (record { same_budget = e.same_budget; same_windows = set-up_then r e.same_windows })
 
 preload-set-up : (h : ℕ) (b : HistoricalFeeBlock) (hash : Option (List ℕ)) (x : Whole) → SetUpAs x.state (insert_if_absent_in h b hash x).state
 unfolding insert_if_absent_in
@@ -114,7 +114,7 @@ preload-set-up h b hash x =
     let r = preload-windows-set-up q s.count (hurdle_of b) s.analog_stale (windows_of s m) in
     let e = store-set-up q h b hash _ in
     chosen (λ (y : Whole). y.state) (is_held m.rows.heights s h) x _ (unchanged s)
-    (record { same-budget = e.same-budget; same-windows = set-up_then r e.same-windows })
+    (record { same_budget = e.same_budget; same_windows = set-up_then r e.same_windows })
 
 pub refreshed-set-up : (stale : Bool) (es : List (Entry HistoricalFeeBlock)) (w : Windows) → WindowsSetUpAs w.state (refreshed stale es w).state
 unfolding refreshed
@@ -125,7 +125,7 @@ pub rates-set-up : (z : ℕ) (m : Rows) (x : Rated) → SetUpAs x.state (rates_i
 unfolding rates_in answered_from
 rates-set-up z m x =
     chosen (λ (y : Rated). y.state) x.state.kept x _ (unchanged x.state)
-    (record { same-budget = refl; same-windows = refreshed-set-up x.state.analog_stale (held_rows m x.state) (windows_with x) })
+    (record { same_budget = refl; same_windows = refreshed-set-up x.state.analog_stale (held_rows m x.state) (windows_with x) })
 
 call-set-up : (c : Call) (x : Whole) → SetUpAs x.state (call_in c x).state
 unfolding call_in

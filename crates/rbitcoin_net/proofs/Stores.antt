@@ -99,7 +99,7 @@ module _ (q h : ℕ) (b : HistoricalFeeBlock) (m : Rows) (z : Hashes) (us : List
     blocks = rows-after i;
     total = saturating_add s.txstat_bytes b.txstat_bytes;
     budget = s.budget;
-    targets = tabulate (λ k. get_or (f.set-up.same-targets i) k 0) 0 (f.set-up.same_tracked i);
+    targets = tabulate (λ k. get_or (f.set-up.same_targets i) k 0) 0 (f.set-up.same_tracked i);
     hashes = held_hashes z s;
     hurdles = held_in w;
     stale = stale;

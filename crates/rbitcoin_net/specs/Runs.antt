@@ -42,8 +42,8 @@ run_in (c ∷ cs) x = run_in cs (call_in c x)
 
 -- t has the budget of s, its targets and its capacity, which an opening sets
 pub record SetUpAs (s t : FeeHistory) : Type 0 where
-  pub same-budget : t.budget ≡ s.budget
-  pub same-windows : WindowsSetUpAs s.analog t.analog
+  pub same_budget : t.budget ≡ s.budget
+  pub same_windows : WindowsSetUpAs s.analog t.analog
 
 -- heights are u32, and a hash that is there has 32 bytes
 abbrev pub InRange32 : Call → Type 0

@@ -8,6 +8,6 @@ pub returns : goal.returns
 unfolding feequote
 returns c =
     record {
-      wrote = subst (λ (x : Input). Wrote c.args.out.now 0 (text x) c.write.new.out c.write.result) c.read.ensures.result_value_2 c.write.ensures.wrote;
+      wrote = subst (λ (x : Input). Wrote c.args.out.now 0 (text x) c.write.new.out c.write.result) c.read.ensures.parsed c.write.ensures.wrote;
       prefix_len = c.write.ensures.prefix_len;
     }

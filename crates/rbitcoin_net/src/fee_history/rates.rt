@@ -142,7 +142,7 @@ pub(crate) fn rates_in(
     requires { (s.analog.tracked ≤ 16) × (s.start + s.count ≤ length marks.now) × (s.start + s.count ≤ length rates.now) }
     ensures by_index { (hs zs : List ℕ) → rated result hurdles.new befores.new aheads.new ≡ rates_in (length scratch.old) (rows hs marks.now rates.now zs) (rated s hurdles.old befores.old aheads.old) }
     ensures scratch_unchanged { s.kept ≡ true → scratch.new ≡ scratch.old }
-    ensures by_index_2 { (hs zs : List ℕ) → ((d : ℕ) → d < s.analog.tracked → rate_from (refreshed_in (rows hs marks.now rates.now zs) (rated s hurdles.old befores.old aheads.old)) (length scratch.old) d ≡ none) → scratch.new ≡ scratch.old }
+    ensures scratch_unread { (hs zs : List ℕ) → ((d : ℕ) → d < s.analog.tracked → rate_from (refreshed_in (rows hs marks.now rates.now zs) (rated s hurdles.old befores.old aheads.old)) (length scratch.old) d ≡ none) → scratch.new ≡ scratch.old }
 {
     if s.kept {
         return s;

@@ -7,8 +7,8 @@ use Rattle.num.proofs.float.ceil.Goals as goal
 pub whole_below-w-requires : goal.whole_below-w-requires
 unfolding of_bits
 whole_below-w-requires c = record {
-  t = subst T (sym c.if-x.true) tt;
-  t_2 = subst T (sym c.if-x-2.true) tt;
+  above_zero = subst T (sym c.if-x.true) tt;
+  below_whole = subst T (sym c.if-x-2.true) tt;
 }
 
 pub returns-then-w-x : goal.returns-then-w-x

@@ -10,8 +10,8 @@ true-is b e = subst T (sym e) tt
 pub whole_below-w-requires : goal.whole_below-w-requires
 unfolding of_bits
 whole_below-w-requires c = record {
-  t = true-is _ c.if-x.true;
-  t_2 = true-is _ c.if-x-2.true;
+  above_zero = true-is _ c.if-x.true;
+  below_whole = true-is _ c.if-x-2.true;
 }
 
 pub returns-then-w-x : goal.returns-then-w-x
@@ -34,8 +34,8 @@ returns-else-x-2 c = positive_large c.args.x c.if-x.true (true-is _ c.well_forme
 pub whole_below-w-requires-then-x-4 : goal.whole_below-w-requires-then-x-4
 unfolding of_bits
 whole_below-w-requires-then-x-4 c = record {
-  t = true-is _ (negative-above c.args.x c.if-x-3.true);
-  t_2 = true-is _ c.if-x-4.true;
+  above_zero = true-is _ (negative-above c.args.x c.if-x-3.true);
+  below_whole = true-is _ c.if-x-4.true;
 }
 
 pub returns-then-w-x-2 : goal.returns-then-w-x-2

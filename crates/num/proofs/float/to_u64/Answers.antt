@@ -7,8 +7,8 @@ use Rattle.num.proofs.float.to_u64.Goals as goal
 pub part_below-requires : goal.part_below-requires
 unfolding of_bits
 part_below-requires c = record {
-  t = subst T (sym c.if-x.true) tt;
-  t_2 = subst T (sym c.if-x-2.true) tt;
+  above_zero = subst T (sym c.if-x.true) tt;
+  below_whole = subst T (sym c.if-x-2.true) tt;
 }
 
 pub truncating_f64_to_u64-requires : goal.truncating_f64_to_u64-requires

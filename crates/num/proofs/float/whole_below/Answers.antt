@@ -6,8 +6,8 @@ use Rattle.num.proofs.float.whole_below.Goals as goal
 
 pub returns-then-x-k : goal.returns-then-x-k
 unfolding of_bits
-returns-then-x-k c = landed-above c.args.x (is_true _ c.requires.t) (is_true _ c.requires.t_2) c.if-x-k.true
+returns-then-x-k c = landed-above c.args.x (is_true _ c.requires.above_zero) (is_true _ c.requires.below_whole) c.if-x-k.true
 
 pub returns : goal.returns
 unfolding of_bits
-returns c = landed-within c.args.x (is_true _ c.requires.t) (is_true _ c.requires.t_2) c.if-x-k.false
+returns c = landed-within c.args.x (is_true _ c.requires.above_zero) (is_true _ c.requires.below_whole) c.if-x-k.false

@@ -9,6 +9,6 @@ pub returns : goal.returns
 returns c =
     let e = c.finish-counts.ensures ∙ ap finished (c.feed-r.ensures ∙ ap (λ (r : Reader). fed (state_of r zeros zeros zeros zeros) c.args.input.now) c.new.ensures) in
     record {
-      result_value = e;
-      result_value_2 = ap seen e ∙ reads zeros zeros zeros zeros refl refl refl refl c.args.input.now;
+      kept = e;
+      parsed = ap seen e ∙ reads zeros zeros zeros zeros refl refl refl refl c.args.input.now;
     }

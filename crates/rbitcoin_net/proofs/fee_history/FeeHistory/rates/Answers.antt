@@ -27,4 +27,4 @@ put_answers-requires c =
 
 pub returns : goal.returns
 returns c =
-    rates-done (rows c.args.heights.now c.args.marks.now c.args.rates.now c.args.sizes.now) (rated c.args.self c.args.hurdles.now c.args.befores.now c.args.aheads.now) (outputs c.args.scratch.now c.args.out_numbers.now c.args.out_marks.now) _ _ (sym c.rates_refusal-refusal.ensures ∙ c.if-refusal-ne0.false) (c.rates_in-state.ensures.by_index c.args.heights.now c.args.sizes.now) c.put_answers.ensures.numbers_after c.put_answers.ensures.marks_after c.rates_in-state.auto.scratch c.rates_in-state.ensures.scratch_unchanged (c.rates_in-state.ensures.by_index_2 c.args.heights.now c.args.sizes.now)
+    rates-done (rows c.args.heights.now c.args.marks.now c.args.rates.now c.args.sizes.now) (rated c.args.self c.args.hurdles.now c.args.befores.now c.args.aheads.now) (outputs c.args.scratch.now c.args.out_numbers.now c.args.out_marks.now) _ _ (sym c.rates_refusal-refusal.ensures ∙ c.if-refusal-ne0.false) (c.rates_in-state.ensures.by_index c.args.heights.now c.args.sizes.now) c.put_answers.ensures.numbers_after c.put_answers.ensures.marks_after c.rates_in-state.auto.scratch c.rates_in-state.ensures.scratch_unchanged (c.rates_in-state.ensures.scratch_unread c.args.heights.now c.args.sizes.now)

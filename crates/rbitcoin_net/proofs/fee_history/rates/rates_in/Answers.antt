@@ -14,7 +14,7 @@ returns-then-s c =
     let x = rated c.args.s c.args.hurdles.now c.args.befores.now c.args.aheads.now in record {
       by_index = λ hs zs. kept-answers (length c.args.scratch.now) (rows hs c.args.marks.now c.args.rates.now zs) x c.if-s.true;
       scratch_unchanged = λ k. refl;
-      by_index_2 = λ hs zs h. refl;
+      scratch_unread = λ hs zs h. refl;
     }
 
 pub rate_slots-found-requires : goal.rate_slots-found-requires
@@ -29,5 +29,5 @@ returns c =
     let x = rated c.args.s c.args.hurdles.now c.args.befores.now c.args.aheads.now in record {
       by_index = λ hs zs. fresh-answers z (rows hs c.args.marks.now c.args.rates.now zs) x c.refresh-analog.result _ _ _ c.rate_slots-found.result.numbers c.rate_slots-found.result.marks c.if-s.false (c.refresh-analog.ensures hs zs) c.rate_slots-found.ensures.numbers_value c.rate_slots-found.ensures.marks_value;
       scratch_unchanged = λ k. absurd (false-true (sym c.if-s.false ∙ k));
-      by_index_2 = λ hs zs h. c.rate_slots-found.ensures.by_index (fresh-scratch z (rows hs c.args.marks.now c.args.rates.now zs) x c.refresh-analog.result _ _ _ (c.refresh-analog.ensures hs zs) h);
+      scratch_unread = λ hs zs h. c.rate_slots-found.ensures.by_index (fresh-scratch z (rows hs c.args.marks.now c.args.rates.now zs) x c.refresh-analog.result _ _ _ (c.refresh-analog.ensures hs zs) h);
     }

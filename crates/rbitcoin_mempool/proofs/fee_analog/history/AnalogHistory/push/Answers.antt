@@ -37,7 +37,7 @@ overflow_add-place c =
     let z = sym c.push_refusal-refusal.ensures ∙ c.if-refusal-ne0.false in
     let u : Windows = windows c.room-r.result c.room-r.new.hurdles c.room-r.new.befores c.room-r.new.aheads in
     let o : OpenAt c.args.newest u = opened _ u _ z c.room-r.ensures in
-    omega (arith, o.valid.hurdles-fit, o.valid.within)
+    omega (arith, o.valid.hurdles_fit, o.valid.within)
 
 pub offset_bounds-hurdles-place : goal.offset_bounds-hurdles-place
 offset_bounds-hurdles-place c =
@@ -53,7 +53,7 @@ offset_bounds-hurdles-place c =
       | else-newest-2 w ↦ rw w.if-newest-2.false (w.place-is ∙ rw w.if-newest-2.false at f)
     ] in
     let i : c.if-newest-2.place < c.room-r.result.capacity = rw p (place-within u 0 _ o) in
-    omega (arith, o.valid.hurdles-fit)
+    omega (arith, o.valid.hurdles_fit)
 
 pub bounds-hurdles-place : goal.bounds-hurdles-place
 bounds-hurdles-place c =
@@ -69,14 +69,14 @@ bounds-hurdles-place c =
       | else-newest-2 w ↦ rw w.if-newest-2.false (w.place-is ∙ rw w.if-newest-2.false at f)
     ] in
     let i : c.if-newest-2.place < c.room-r.result.capacity = rw p (place-within u 0 _ o) in
-    omega (arith, o.valid.hurdles-fit)
+    omega (arith, o.valid.hurdles_fit)
 
 pub overflow_add-r : goal.overflow_add-r
 overflow_add-r c =
     let z = sym c.push_refusal-refusal.ensures ∙ c.if-refusal-ne0.false in
     let u : Windows = windows c.room-r.result c.room-r.new.hurdles c.room-r.new.befores c.room-r.new.aheads in
     let o : OpenAt c.args.newest u = opened _ u _ z c.room-r.ensures in
-    omega (arith, o.valid.hurdles-fit, o.valid.within)
+    omega (arith, o.valid.hurdles_fit, o.valid.within)
 
 pub put_pairs-requires : goal.put_pairs-requires
 put_pairs-requires c =
