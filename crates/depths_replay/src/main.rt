@@ -9,7 +9,7 @@ use rbitcoin_mempool::answer::{Outcome, Rate, RateAnswer};
 use rbitcoin_mempool::fee_est;
 use replay_lines::{after_list, copy_u8, copy_u32, copy_u64, list, put, word_at};
 use std::io;
-use std::io::{BufWriter, Read, Write};
+use std::io::Write;
 
 fn put_mark<W: Write>(to: &mut W, mark: u8) -> io::Result<()> {
     put::next(to, mark as u64)
@@ -298,9 +298,7 @@ fn answer_all<W: Write>(to: &mut W, lines: &[u8]) -> io::Result<()> {
 }
 
 fn main(rt: HostRuntime) -> io::Result<()> {
-    let mut lines = Vec::new(rt.alloc());
-    rt.reader().take(65536).read_to_end(&mut lines)?;
-    let mut to = BufWriter::new(rt.alloc(), io::writer(&rt))?;
-    answer_all(&mut to, &lines)?;
-    to.flush()
+    let mut lines = [0u8; 65536];
+    let n = replay_lines::read_full(&mut rt.stdin(), &mut lines)?;
+    answer_all(&mut rt.stdout(), &lines[..n])
 }

@@ -8,7 +8,7 @@
 use rbitcoin_mempool::fee_flow::FeeFlowMeter;
 use replay_lines::{bits_of, digests, put, word_at};
 use std::io;
-use std::io::{BufWriter, Read, Write};
+use std::io::Write;
 
 // The bit patterns of the rates.
 fn digest(m: FeeFlowMeter) -> u64 {
@@ -76,9 +76,7 @@ fn answer_all<W: Write>(to: &mut W, lines: &[u8]) -> io::Result<()> {
 }
 
 fn main(rt: HostRuntime) -> io::Result<()> {
-    let mut lines = Vec::new(rt.alloc());
-    rt.reader().take(65536).read_to_end(&mut lines)?;
-    let mut to = BufWriter::new(rt.alloc(), io::writer(&rt))?;
-    answer_all(&mut to, &lines)?;
-    to.flush()
+    let mut lines = [0u8; 65536];
+    let n = replay_lines::read_full(&mut rt.stdin(), &mut lines)?;
+    answer_all(&mut rt.stdout(), &lines[..n])
 }

@@ -6,12 +6,30 @@
 pub mod digests;
 pub mod put;
 
-ghost use Rattle.std.specs.Prelude.{◌≡◌, ◌+◌, ◌-◌, ◌≤◌, min, map, length, take, drop, from_bits, slice_index};
+ghost use Rattle.std.specs.Prelude.{◌≡◌, ◌+◌, ◌-◌, ◌≤◌, IfOk, min, map, length, take, drop, from_bits, slice_index};
 ghost use Rattle.std.specs.Float.{binary64};
 ghost use Rattle.io.specs.Counts.{IsPrefixLen};
 ghost use Rattle.replay_lines.specs.Hex.{hex_digit, hex_of, one_nan};
 ghost use Rattle.replay_lines.specs.Lines.{up_to, after_line, words_of};
 ghost use Rattle.replay_lines.specs.Lists.{list_at, over, low32, low8};
+
+use std::io;
+use std::io::Read;
+
+// Reads until a buffer is full or the input ends, and says how many bytes that were.
+pub fn read_full<R: Read>(from: &mut R, buf: &mut [u8]) -> io::Result<usize>
+    ensures { IfOk result (λ n. n ≤ length buf.new) }
+{
+    let mut n: usize = 0;
+    while n < buf.len() {
+        let got = from.read(&mut buf[n..])?;
+        if got == 0 {
+            return Ok(n);
+        }
+        n += got;
+    }
+    Ok(n)
+}
 
 // The first place from `from` on at which the byte b stands, or the end.
 fn find(s: &[u8], b: u8, from: usize) -> usize
