@@ -1,12 +1,10 @@
 -- The bits of floats that are not negative are ordered as the floats, and so are the bits of magnitudes of which none is NaN. Assumes nothing.
-use Rattle.std.proofs.Common.{◌≡◌, ℕ, zero, suc, ◌+◌, ◌-◌, ◌*◌, ◌/◌, ◌%◌, ◌^◌, ◌<◌, ◌≤◌, Bool, true, false, not, ◌&&◌, T, eqb, ltb, leb, ℤ, sym, refl, ap, ◌∙◌, subst, ⊎_elim, true≢false, le_of_lt, add_assoc, mul-le-mul_right, mod-eq_of_lt, div-lt_iff_lt-mul, eq-or-lt_of_le, mul-lt-mul_of_pos_right, mul-pos, pow-suc, le-div_iff_mul-le, zero-add, arith, ltb→lt, pow_pos, pow-add, ltb-false, ltb-true, le-ltb, lt-ltb}
-use native.Mathlib.Nat.{add-mod_left}
-use lib.Ieee.{Float, nan, inf, fin, Format, binary64, ne, is_nan, prec, emax, low, hid, ones, top, size, up, down, lt, to_bits, of_bits, fits}
+use Rattle.std.proofs.Common.{◌≡◌, ℕ, zero, suc, ◌+◌, ◌-◌, ◌*◌, ◌/◌, ◌%◌, ◌^◌, ◌<◌, ◌≤◌, Bool, true, false, not, ◌&&◌, T, eqb, ltb, leb, ℤ, sym, refl, ap, ◌∙◌, subst, ⊎_elim, true≢false, le_of_lt, add_assoc, mul-le-mul_right, div-lt_iff_lt-mul, eq-or-lt_of_le, mul-lt-mul_of_pos_right, mul-pos, pow-suc, le-div_iff_mul-le, zero-add, arith, ltb→lt, pow_pos, pow-add, ltb-false, ltb-true, le-ltb, lt-ltb}
+use lib.Ieee.{Float, nan, inf, fin, Format, binary64, is_nan, prec, emax, low, hid, ones, top, size, up, down, lt, to_bits, of_bits, fits}
 use lib.Ieee.Fits.{two, reach, down_pos, kept-lt, and_r}
 use lib.Ieee.Digits.{size-lt, size-le, size_reaches}
 use lib.Ieee.Nearest.{div_mono}
 use lib.Ieee.Bits.{of_bits-to_bits}
-use lib.Ieee.Compare.{differs_from_itself, nan_differs}
 use Rattle.num.specs.Float.{abs_of, abs_bits}
 use Rattle.num.proofs.Sign.{unsigned}
 
@@ -130,7 +128,7 @@ module _ (f : Format) where
       (div_mono (m * up e * 2 ^ low f) (down e) (n * up d * 2 ^ low f) (down d) (down_pos e) (down_pos d)
       (crossed (m * up e) (down d) (n * up d) (down e) (2 ^ low f) (ltb-false (n * up d * down e) (m * up e * down d) h))))
 
-  same_bits : (x y : Float) → T (fits f x) → T (fits f y) → to_bits f x ≡ to_bits f y → x ≡ y
+  pub same_bits : (x y : Float) → T (fits f x) → T (fits f y) → to_bits f x ≡ to_bits f y → x ≡ y
   same_bits x y a b e = sym (of_bits-to_bits f x a) ∙ ap (of_bits f) e ∙ of_bits-to_bits f y b
 
   -- the test on the patterns is the test on the floats
@@ -146,36 +144,12 @@ module _ (f : Format) where
           (λ l. l)
           (eq-or-lt_of_le (bits_mono x y u v a b (one_way x y u v e))))
 
--- ---- the bits without the sign, by the test that `abs_bits` makes
+-- ---- magnitudes that are numbers are ordered as their bits
 other_sign : (m : ℕ) (e : ℤ) → T (fits binary64 (fin true m e)) → T (fits binary64 (fin false m e))
 unfolding fits
 other_sign zero e h = h
 other_sign (suc m) e h = h
 
-under : (m : ℕ) (e : ℤ) → T (fits binary64 (fin false m e)) → to_bits binary64 (fin false m e) < 2 ^ 63
-under m e h = omega (arith, below_inf binary64 m e h, bits-inf binary64)
-
--- the pattern without its sign
-pub magnitude : (x : Float) → T (fits binary64 x) → T (not (is_nan x)) → to_bits binary64 x % 2 ^ 63 ≡ abs_bits x
-unfolding abs_bits is_nan
-magnitude nan f h = absurd h
-magnitude (inf true) f h = unfold to_bits in refl
-magnitude (inf false) f h = unfold to_bits in refl
-magnitude (fin false m e) f h = mod-eq_of_lt (under m e f)
-magnitude (fin true m e) f h =
-    rw (bits_negative binary64 m e) (add-mod_left (2 ^ 63) (to_bits binary64 (fin false m e)) ∙ mod-eq_of_lt (under m e (other_sign m e f)))
-
-pub a-number : (x : Float) → ne x x ≡ false → T (not (is_nan x))
-unfolding is_nan
-a-number nan h = absurd (true≢false (sym nan_differs ∙ h))
-a-number (inf s) h = tt
-a-number (fin s m e) h = tt
-
-pub no_number : (x : Float) → ne x x ≡ true → 2 ^ 64 - 1 ≡ abs_bits x
-unfolding abs_bits is_nan
-no_number x h = rw (differs_from_itself x (subst T (sym h) tt))
-
--- ---- magnitudes that are numbers are ordered as their bits
 abs-fits : (x : Float) → T (fits binary64 x) → T (fits binary64 (abs_of x))
 abs-fits nan f = f
 abs-fits (inf s) f = unfold fits in tt

@@ -1,7 +1,6 @@
 -- The bit pattern of a value from 1 up: its two fields are the exponent, raised by 1023, and the digits of the significand. Assumes nothing.
-use Rattle.std.proofs.Common.{◌≡◌, ℕ, zero, suc, ◌+◌, ◌-◌, ◌*◌, ◌/◌, ◌%◌, ◌^◌, ◌<◌, ◌≤◌, true, false, not, ◌&&◌, T, eqb, ltb, leb, ℤ, pos, negsuc, sym, refl, ap, ◌∙◌, subst, le_trans, le_of_eq, lt_of_lt_of_le, le_of_suc-le-suc, lt_of_le_of_lt, lt_irrefl, mul-le-mul_right, mul_assoc, mul_comm, le_antisymm, suc-add, one-mul, lt_of_not-le, mul-one, mul-div_cancel, arith, leb→le, pow_pos, pow_mono, pow-add, shl_lt, lt-ltb, le-leb}
+use Rattle.std.proofs.Common.{◌≡◌, ℕ, zero, suc, ◌+◌, ◌-◌, ◌*◌, ◌/◌, ◌%◌, ◌^◌, ◌<◌, ◌≤◌, true, false, not, ◌&&◌, T, eqb, ltb, leb, ℤ, pos, negsuc, sym, refl, ap, ◌∙◌, subst, le_trans, le_of_eq, lt_of_lt_of_le, lt_of_le_of_lt, lt_irrefl, mul-le-mul_right, mul_assoc, mul_comm, le_antisymm, suc-add, one-mul, lt_of_not-le, mul-one, mul-div_cancel, arith, leb→le, pow_pos, pow_mono, pow-add, shl_lt, lt-ltb, le-leb}
 use borrow.Author.Tests.{lt-leb}
-use lib.Pow.{pow-lt}
 use lib.Ieee.{Float, nan, inf, fin, binary64, up, down, minus, size, fits, is_nan, to_bits, of_bits, nan_bits}
 use lib.Ieee.Digits.{back, size-lt, size-le, size_reaches}
 use lib.Ieee.Fits.{down_pos, and_i, and_l}
@@ -11,9 +10,6 @@ use Rattle.num.proofs.Power.{no_nan}
 use Rattle.num.specs.Ln.{from_one, significand_of, exponent_of}
 
 -- ---- how many digits a number has
-pub pow_le_back : (a l : ℕ) → 2 ^ a ≤ 2 ^ l → a ≤ l
-pow_le_back a l h = le_of_suc-le-suc (lt_of_not-le (λ (g : suc l ≤ a). lt_irrefl (2 ^ l) (lt_of_lt_of_le (pow-lt g) h)))
-
 pow_lt_back : (a l : ℕ) → 2 ^ a < 2 ^ l → a < l
 pow_lt_back a l h = lt_of_not-le (λ (g : l ≤ a). lt_irrefl (2 ^ a) (lt_of_lt_of_le h (pow_mono g)))
 

@@ -1,14 +1,14 @@
 -- `floor_of` in each of the seven cases that `floor` tells apart, and `ceil_of` by `floor_of`. Assumes nothing.
-use Rattle.std.proofs.Common.{◌≡◌, ℕ, zero, suc, ◌+◌, ◌*◌, ◌%◌, ◌^◌, ◌<◌, ◌≤◌, Bool, true, false, cond, not, T, eqb, ltb, ℤ, pos, negsuc, sym, refl, ap, ◌∙◌, subst, true≢false, lt_of_le_of_lt, mul-le-mul_right, div-lt_iff_lt-mul, lt_of_mul-lt-mul_right, mul-lt-mul_of_pos_right, pow-suc, div-add-mod', mul-one, div-mul-le_self, arith, lit≤, le→leb, pow_pos, ltb-false, ltb-true, le-ltb, lt-ltb, eq-eqb, eqb-true}
+use Rattle.std.proofs.Common.{◌≡◌, ℕ, zero, suc, ◌+◌, ◌*◌, ◌%◌, ◌^◌, ◌<◌, ◌≤◌, Bool, true, false, cond, not, T, eqb, ltb, ℤ, pos, negsuc, sym, refl, ap, ◌∙◌, true≢false, lt_of_le_of_lt, mul-le-mul_right, div-lt_iff_lt-mul, lt_of_mul-lt-mul_right, mul-lt-mul_of_pos_right, pow-suc, div-add-mod', mul-one, div-mul-le_self, arith, lit≤, le→leb, pow_pos, ltb-false, ltb-true, le-ltb, lt-ltb, eq-eqb, eqb-true}
 use native.Mathlib.Nat.{lt-div-mul-add, zero-mod, min-eq_left}
 use borrow.Author.Tests.{eqb-false}
-use lib.Ieee.{Float, nan, inf, fin, binary64, up, down, neg, lt, add, sub, to_unsigned, in_unsigned, in_float, fits}
-use lib.Ieee.Fits.{down_pos}
+use lib.Ieee.{Float, nan, inf, fin, binary64, up, down, neg, lt, add, sub, to_unsigned, in_signed, to_signed, in_float, fits}
+use lib.Ieee.Fits.{down_pos, of_int-fits}
 use lib.Ieee.Exact.{HasValue}
-use lib.Ieee.Back.{unsigned_back}
+use lib.Ieee.Back.{positive_back, whole_unique}
 use mir.Val.{bool_byte}
 use Rattle.num.specs.Float.{of_u64, to_u64, cut, is_whole, floor_of, ceil_of}
-use Rattle.num.proofs.Value.{held, above_of-value, below_of-value}
+use Rattle.num.proofs.Value.{held}
 use Rattle.num.proofs.Whole.{whole-value, whole-next}
 use Rattle.num.proofs.WholeSum.{whole_before, Lands, lands}
 
@@ -52,11 +52,11 @@ above-by (fin false k d) n m e v =
     let h : k * up d * down e ≡ n * down e * down d = ap (λ (z : ℕ). z * down e) w ∙ omega arith in
     ap (λ (z : ℕ). ltb (m * up e * down d) z) h ∙ scaled (m * up e) (n * down e) (down d) (down_pos d)
 
-small : (m : ℕ) (e : ℤ) → lt (fin false m e) (fin false 1 (pos 52)) ≡ true → m * up e < 2 ^ 52 * down e
+pub small : (m : ℕ) (e : ℤ) → lt (fin false m e) (fin false 1 (pos 52)) ≡ true → m * up e < 2 ^ 52 * down e
 unfolding lt
 small m e h = omega (arith, ltb-true (m * up e * 1) (1 * 2 ^ 52 * down e) h)
 
-large : (m : ℕ) (e : ℤ) → lt (fin false m e) (fin false 1 (pos 52)) ≡ false → 2 ^ 52 * down e ≤ m * up e
+pub large : (m : ℕ) (e : ℤ) → lt (fin false m e) (fin false 1 (pos 52)) ≡ false → 2 ^ 52 * down e ≤ m * up e
 unfolding lt
 large m e h = omega (arith, ltb-false (m * up e * 1) (1 * 2 ^ 52 * down e) h)
 
@@ -81,7 +81,7 @@ flip false true h = refl
 flip false false h = absurd (true≢false h)
 
 -- ---- from 2 ^ 52 on every float is whole
-no_fraction : (m k : ℕ) → m < 2 ^ 53 → 2 ^ 52 * 2 ^ suc k ≤ m * 1 → ⊥
+pub no_fraction : (m k : ℕ) → m < 2 ^ 53 → 2 ^ 52 * 2 ^ suc k ≤ m * 1 → ⊥
 no_fraction m k M h = omega (arith, pow-suc 2 k, pow_pos k)
 
 pub large-whole : (s : Bool) (m : ℕ) (e : ℤ) → T (fits binary64 (fin s m e)) → 2 ^ 52 * down e ≤ m * up e → is_whole m e ≡ true
@@ -93,7 +93,7 @@ zero-whole : (m : ℕ) (e : ℤ) → m * up e ≡ 0 → is_whole m e ≡ true
 zero-whole m e h = eq-eqb (m * up e % down e) 0 (ap (λ (z : ℕ). z % down e) h ∙ zero-mod (down e))
 
 -- ---- what lies above 0, and below it
-above : (P : Float → Type 0) → P (inf false) → ((m : ℕ) (e : ℤ) → P (fin false m e)) → (x : Float) → lt (fin false 0 (pos 0)) x ≡ true → P x
+pub above : (P : Float → Type 0) → P (inf false) → ((m : ℕ) (e : ℤ) → P (fin false m e)) → (x : Float) → lt (fin false 0 (pos 0)) x ≡ true → P x
 unfolding lt
 above P i f nan h = absurd (true≢false (sym h))
 above P i f (inf true) h = absurd (true≢false (sym h))
@@ -109,20 +109,12 @@ under P i f (inf false) h = absurd (true≢false (sym h))
 under P i f (fin true m e) h = f m e
 under P i f (fin false m e) h = absurd (true≢false (sym h ∙ le-ltb (m * up e * 1) (0 * down e) (omega (arith, ltb-true (m * up e * 1) (0 * down e) h))))
 
-abbrev limit : Float
+abbrev pub limit : Float
 limit = fin false 1 (pos 52)
 
 -- the whole part of x, as a float
 abbrev part_of : Float → Float
 part_of x = of_u64 (to_u64 x)
-
-pub in_range : (x : Float) → lt (fin false 0 (pos 0)) x ≡ true → lt x limit ≡ true → T (lt (fin true 1 (pos 0)) x) × T (lt x (fin false 1 (pos 64)))
-in_range =
-    above (λ (x : Float). lt x limit ≡ true → T (lt (fin true 1 (pos 0)) x) × T (lt x (fin false 1 (pos 64)))) (λ b. absurd (true≢false (sym (unfold lt in b))))
-    (λ m e b. (
-      above_of-value (fin false m e) (m * up e) (down e) (refl, refl),
-      below_of-value 64 (fin false m e) (m * up e) (down e) (down_pos e) (refl, refl) (omega (arith, small m e b)),
-    ))
 
 -- ---- the whole part by a sum: x + 2 ^ 52 - 2 ^ 52, or one less where that is above x
 abbrev landed : Float → Float
@@ -173,30 +165,26 @@ landed-within x a b t = (landing x a b).0 ∙ ap (λ (z : Bool). of_u64 (to_u64 
     same : (n : ℕ) → n + 0 ≡ n
     same n = omega arith
 
--- the same as a u64: the cast loses nothing
-pub landed_cast : (x : Float) → lt (fin false 0 (pos 0)) x ≡ true → lt x limit ≡ true → T (in_unsigned binary64 64 (landed x)) × (to_u64 (landed x) ≡ to_u64 x + bool_byte (lt x (landed x)))
+-- the whole part as an i64: the cast loses nothing
+pub part_cast : (x : Float) → lt (fin false 0 (pos 0)) x ≡ true → lt x limit ≡ true → T (in_signed binary64 63 (part_of x)) × (to_signed 63 (part_of x) ≡ pos (to_u64 x))
 unfolding in_float
-landed_cast x a b =
-    let h = landing x a b in
-    let j = to_u64 x + bool_byte (lt x (landed x)) in
-    let r = unsigned_back binary64 64 j (le→leb j (2 ^ 53) (omega (arith, bit (lt x (landed x)), h.1))) (omega (arith, bit (lt x (landed x)), h.1)) in
-    (subst (λ (y : Float). T (in_unsigned binary64 64 y)) (sym h.0) r.0, ap to_u64 h.0 ∙ r.1)
-  where
-    bit : (t : Bool) → bool_byte t ≤ 1
-    bit true = lit≤ tt
-    bit false = lit≤ tt
+part_cast x a b =
+    let h = (landing x a b).1 in
+    positive_back binary64 63 (to_u64 x) (le→leb (to_u64 x) (2 ^ 53) (omega (arith, h))) (omega (arith, h))
 
-pub positive_fraction : (x : Float) → lt (fin false 0 (pos 0)) x ≡ true → lt x limit ≡ true → lt (part_of x) x ≡ true → part_of x ≡ floor_of x
-unfolding floor_of
-positive_fraction =
-    above (λ (x : Float). lt x limit ≡ true → lt (part_of x) x ≡ true → part_of x ≡ floor_of x) (λ b. absurd (true≢false (sym (unfold lt in b))))
-    (λ m e b w. rw (flip (is_whole m e) true (sym (test m e (small m e b)) ∙ w), cast m e (small m e b)))
+-- the whole part is the floor: a float that is whole is the only one of its value
+at-part : (m : ℕ) (e : ℤ) → T (fits binary64 (fin false m e)) → m * up e < 2 ^ 52 * down e → (b : Bool) → is_whole m e ≡ b → of_u64 (cut m e) ≡ cond b (fin false m e) (of_u64 (cut m e))
+at-part m e f h false w = refl
+at-part m e f h true w =
+    let q = cut m e in
+    let v : m * up e * 1 ≡ q * down e = omega (arith, div-add-mod' (m * up e) (down e), eqb-true (m * up e % down e) 0 w) in
+    whole_unique binary64 (of_u64 q) (fin false m e) false q (of_int-fits binary64 (pos q)) f (whole-value q (omega (arith, cut_small m e h))) (refl, v)
 
-pub positive-whole : (x : Float) → lt (fin false 0 (pos 0)) x ≡ true → lt x limit ≡ true → lt (part_of x) x ≡ false → x ≡ floor_of x
+pub positive : (x : Float) → T (fits binary64 x) → lt (fin false 0 (pos 0)) x ≡ true → lt x limit ≡ true → part_of x ≡ floor_of x
 unfolding floor_of
-positive-whole =
-    above (λ (x : Float). lt x limit ≡ true → lt (part_of x) x ≡ false → x ≡ floor_of x) (λ b. absurd (true≢false (sym (unfold lt in b))))
-    (λ m e b w. rw (flip (is_whole m e) false (sym (test m e (small m e b)) ∙ w)))
+positive x f a b =
+    above (λ (x : Float). T (fits binary64 x) → lt x limit ≡ true → part_of x ≡ floor_of x) (λ f b. absurd (true≢false (sym (unfold lt in b))))
+    (λ m e f b. rw (cast m e (small m e b)) (at-part m e f (small m e b) (is_whole m e) refl)) x a f b
 
 pub positive_large : (x : Float) → lt (fin false 0 (pos 0)) x ≡ true → T (fits binary64 x) → lt x limit ≡ false → x ≡ floor_of x
 unfolding floor_of
@@ -258,24 +246,3 @@ ceil_floor (inf true) = refl
 ceil_floor (inf false) = refl
 ceil_floor (fin true m e) = neg-cond (is_whole m e) (fin false m e) (of_u64 (cut m e))
 ceil_floor (fin false m e) = neg-cond (is_whole m e) (fin true m e) (neg (of_u64 (cut m e + 1))) ∙ ap (λ (y : Float). cond (is_whole m e) (fin false m e) y) (neg-neg (of_u64 (cut m e + 1)))
-
--- ---- the ceiling above 0
-pub ceil_fraction : (x : Float) → lt (fin false 0 (pos 0)) x ≡ true → lt x limit ≡ true → lt (part_of x) x ≡ true → add binary64 (part_of x) (fin false 1 (pos 0)) ≡ ceil_of x
-unfolding ceil_of
-ceil_fraction =
-    above (λ (x : Float). lt x limit ≡ true → lt (part_of x) x ≡ true → add binary64 (part_of x) (fin false 1 (pos 0)) ≡ ceil_of x) (λ b. absurd (true≢false (sym (unfold lt in b))))
-    (λ m e b w.
-    let l = small m e b in
-    rw (flip (is_whole m e) true (sym (test m e l) ∙ w), cast m e l, whole-next (cut m e) (omega (arith, cut_small m e l))))
-
-pub ceil-whole : (x : Float) → lt (fin false 0 (pos 0)) x ≡ true → lt x limit ≡ true → lt (part_of x) x ≡ false → x ≡ ceil_of x
-unfolding ceil_of
-ceil-whole =
-    above (λ (x : Float). lt x limit ≡ true → lt (part_of x) x ≡ false → x ≡ ceil_of x) (λ b. absurd (true≢false (sym (unfold lt in b))))
-    (λ m e b w. rw (flip (is_whole m e) false (sym (test m e (small m e b)) ∙ w)))
-
-pub ceil_large : (x : Float) → lt (fin false 0 (pos 0)) x ≡ true → T (fits binary64 x) → lt x limit ≡ false → x ≡ ceil_of x
-unfolding ceil_of
-ceil_large =
-    above (λ (x : Float). T (fits binary64 x) → lt x limit ≡ false → x ≡ ceil_of x) (λ f b. refl)
-    (λ m e f b. rw (large-whole false m e f (large m e b)))

@@ -1,5 +1,5 @@
 -- The bit pattern of a halved significand: one less in the exponent's field. Assumes nothing.
-use Rattle.std.proofs.Common.{◌≡◌, ℕ, zero, suc, ◌+◌, ◌-◌, ◌*◌, ◌/◌, ◌^◌, ◌<◌, ◌≤◌, true, false, cond, not, T, eqb, sym, refl, ap, ◌∙◌, true≢false, lt_of_lt_of_le, le_of_suc-le-suc, not-suc-le-zero, mul_assoc, mul_comm, one-mul, mul-one, mul_right_comm, mul-div_cancel, arith, leb→le, pow_pos, pow_mono, shl_lt}
+use Rattle.std.proofs.Common.{◌≡◌, ℕ, zero, suc, ◌+◌, ◌-◌, ◌*◌, ◌/◌, ◌%◌, ◌^◌, ◌<◌, ◌≤◌, true, false, not, T, sym, refl, ap, ◌∙◌, true≢false, lt_of_lt_of_le, mul_assoc, mul_comm, one-mul, mul-one, mul_right_comm, mul-div_cancel, arith, leb→le, pow_pos, pow_mono, shl_lt}
 use native.Mathlib.Numerals.{unary_clauses}
 use lib.Ieee.{Float, nan, inf, fin, binary64, up, down, minus, size, fits, mul, round, to_bits, of_bits, nan_bits, is_nan}
 use lib.Ieee.Digits.{size-le}
@@ -8,7 +8,7 @@ use lib.Ieee.Bits.{of_bits-to_bits, to_bits-of_bits}
 use lib.Ieee.Exact.{HasValue, round_exact}
 use Rattle.num.proofs.Value.{held}
 use Rattle.num.proofs.Values.{mul-value}
-use Rattle.num.proofs.BitOrder.{coded, bits-fin}
+use Rattle.num.proofs.BitOrder.{coded, bits-fin, same_bits}
 use Rattle.num.proofs.Power.{no_nan}
 use Rattle.num.proofs.Fields.{digits, split, unit, pattern, significand-fits, scaled, fields}
 use Rattle.num.specs.Ln.{half, from_one, significand_of}
@@ -29,9 +29,6 @@ bits_of (fin false n d) a l j h e =
     ∙ ap (λ (z : ℕ). z * 2 ^ j) h.1
     ∙ mul_right_comm a (down d) (2 ^ j)
     ))
-
-same_bits : (x y : Float) → T (fits binary64 x) → T (fits binary64 y) → to_bits binary64 x ≡ to_bits binary64 y → x ≡ y
-same_bits x y f g e = sym (of_bits-to_bits binary64 x f) ∙ ap (of_bits binary64) e ∙ of_bits-to_bits binary64 y g
 
 half-value : HasValue half false 1 2
 unfolding of_bits
@@ -66,13 +63,16 @@ module _ (m L : ℕ) (f : T (fits binary64 (fin false (suc m) (minus 0 L)))) (sm
   is-less : mul binary64 (fin false (suc m) (minus 0 L)) half ≡ less
   is-less =
       product
-      ∙ same_bits (round binary64 false (suc m) (2 ^ suc L)) less (round-fits binary64 false (suc m) (2 ^ suc L)) less-fits
+      ∙ same_bits binary64 (round binary64 false (suc m) (2 ^ suc L)) less (round-fits binary64 false (suc m) (2 ^ suc L)) less-fits
       (bits_of (round binary64 false (suc m) (2 ^ suc L)) (suc m) (suc L) (1074 - suc L) exact units ∙ sym (bits_of less (suc m) (suc L) (1074 - suc L) (value (suc L)) units))
 
 -- ---- the significand of a value from 1 up, halved
+abbrev pub lowered : ℕ → ℕ
+lowered b = b % 2 ^ 52 + 1022 * 2 ^ 52
+
 pub record Halved (x : Float) : Type 0 where
-  pub bits : of_bits binary64 (scaled (to_bits binary64 x) - 2 ^ 52) ≡ mul binary64 (significand_of x) half
-  pub number : T (not (nan_bits binary64 (scaled (to_bits binary64 x) - 2 ^ 52)))
+  pub bits : of_bits binary64 (lowered (to_bits binary64 x)) ≡ mul binary64 (significand_of x) half
+  pub number : T (not (nan_bits binary64 (lowered (to_bits binary64 x))))
 
 pub halved : (x : Float) → T (fits binary64 x) → T (from_one x) → Halved x
 unfolding is_nan
@@ -92,16 +92,9 @@ halved (fin false (suc m) e) f h =
     let p = pattern (suc m) (minus 0 L) (1074 - L) L (whole L (omega arith)) (digits m) l (omega arith) in
     let q = pattern (suc m) (minus 0 (suc L)) (1074 - suc L) L (whole (suc L) (omega arith)) (digits m) l (omega arith) in
     let w : b ≡ to_bits binary64 (fin false (suc m) (minus 0 L)) = sym (to_bits-of_bits binary64 b (omega arith) (rw s tt)) ∙ ap (to_bits binary64) s in
-    let v : b - 2 ^ 52 ≡ to_bits binary64 (fin false (suc m) (minus 0 (suc L))) = omega (arith, w, p, q) in
-    let r : of_bits binary64 (b - 2 ^ 52) ≡ fin false (suc m) (minus 0 (suc L)) = ap (of_bits binary64) v ∙ of_bits-to_bits binary64 (fin false (suc m) (minus 0 (suc L))) (less-fits m L g small l) in
+    let v : lowered (to_bits binary64 x) ≡ to_bits binary64 (fin false (suc m) (minus 0 (suc L))) = omega (arith, w, p, q) in
+    let r : of_bits binary64 (lowered (to_bits binary64 x)) ≡ fin false (suc m) (minus 0 (suc L)) = ap (of_bits binary64) v ∙ of_bits-to_bits binary64 (fin false (suc m) (minus 0 (suc L))) (less-fits m L g small l) in
     record { bits = r ∙ sym (unfold significand_of in is-less m L g small l); number = no_nan _ (suc m) (minus 0 (suc L)) r }
   where
     whole : (i : ℕ) → i ≤ 1074 → up (minus 0 i) * 2 ^ 1074 ≡ 2 ^ (1074 - i) * down (minus 0 i)
     whole i a = rw ((unit i).0, (unit i).1, one-mul) (split 1074 i a)
-
--- halved t times, 0 or 1
-pub halved_times : (x : Float) → T (fits binary64 x) → T (from_one x) → (t : ℕ) → t ≤ 1
-    → (of_bits binary64 (scaled (to_bits binary64 x) - t * 2 ^ 52) ≡ cond (eqb t 1) (mul binary64 (significand_of x) half) (significand_of x)) × T (not (nan_bits binary64 (scaled (to_bits binary64 x) - t * 2 ^ 52)))
-halved_times x f h zero l = let e : scaled (to_bits binary64 x) - 0 * 2 ^ 52 ≡ scaled (to_bits binary64 x) = omega arith in rw e ((fields x f h).significand, (fields x f h).number)
-halved_times x f h (suc zero) l = let e : scaled (to_bits binary64 x) - 1 * 2 ^ 52 ≡ scaled (to_bits binary64 x) - 2 ^ 52 = omega arith in rw e ((halved x f h).bits, (halved x f h).number)
-halved_times x f h (suc (suc t)) l = absurd (not-suc-le-zero (le_of_suc-le-suc l))

@@ -1,23 +1,10 @@
--- `terms`, a step at a time; `ln_of` in each of the three cases that `ln` tells apart; and that a whole number's float is 0 or from 1 up. Assumes nothing.
-use Rattle.std.proofs.Common.{◌≡◌, ℕ, zero, suc, ◌+◌, ◌-◌, ◌*◌, ◌^◌, ◌<◌, ◌≤◌, Bool, true, false, cond, T, eqb, pos, refl, ap, lt_irrefl, arith, lit≤, le→leb}
+-- `ln_of` in each of the three cases that `ln` tells apart; and that a whole number's float is 0 or from 1 up. Assumes nothing.
+use Rattle.std.proofs.Common.{◌≡◌, ℕ, ◌+◌, ◌*◌, ◌^◌, ◌<◌, ◌≤◌, Bool, true, false, cond, T, pos, refl, arith, lit≤, le→leb}
 use mir.Val.{bool_byte}
-use lib.Ieee.{Float, nan, inf, fin, binary64, up, down, add, mul, le, of_int, round}
+use lib.Ieee.{Float, nan, inf, fin, binary64, up, down, mul, le, of_int, round}
 use lib.Ieee.Bits.{is_true}
 use Rattle.num.proofs.Bounded.{UpTo, AtLeast, round-up-to, round-at-least}
-use Rattle.num.specs.Ln.{sqrt2, half, from_one, significand_of, exponent_of, ratio, reciprocal, terms, ln_by, ln_of}
-
-pub step : (z t : Float) (j : ℕ) → 0 < j → terms z (j - 1) (add binary64 (reciprocal (j - 1)) (mul binary64 z t)) ≡ terms z j t
-unfolding terms
-step z t zero h = absurd (lt_irrefl 0 h)
-step z t (suc j) h = ap (λ (n : ℕ). terms z n (add binary64 (reciprocal n) (mul binary64 z t))) (less j)
-  where
-    less : (n : ℕ) → suc n - 1 ≡ n
-    less n = omega arith
-
-pub done : (z t : Float) (j : ℕ) → j ≤ 0 → terms z j t ≡ t
-unfolding terms
-done z t zero h = refl
-done z t (suc j) h = absurd (lt_irrefl 0 (omega arith))
+use Rattle.num.specs.Ln.{sqrt2, half, from_one, significand_of, exponent_of, ratio, ln_by, ln_of}
 
 -- ---- a whole number from 1 up, as a float
 from-one-at : (x : Float) → UpTo (2 ^ 64) 1 x → AtLeast 1 1 x → T (from_one x)
@@ -35,6 +22,9 @@ module _ (n : ℕ) (h : n < 2 ^ 64) where
   unfolding of_int
   from_one_lem l = from-one-at (round binary64 false n 1) up-to_64 (round-at-least 1 (pos 0) (unfold round in refl) n 1 (lit≤ tt) (omega arith))
 
+pub is_from_one : (n : ℕ) (x : Float) → x ≡ of_int binary64 (pos n) → n < 2 ^ 64 → 0 < n → T (from_one x)
+is_from_one n x e f h = rw e (from_one_lem n f h)
+
 -- ---- the cases of `ln_of`
 pub at_zero : inf true ≡ ln_of (of_int binary64 (pos 0))
 unfolding ln_of of_int
@@ -49,11 +39,11 @@ module _ (x : Float) (h : T (from_one x)) (m : Float) (k : ℕ) (M : m ≡ signi
   unfolding ln_of
   at-whole t = rw (is_true (from_one x) h, ← M, ← K, t)
 
-  -- halved and raised by a number that is 1 where m is at least SQRT_2, and otherwise 0
-  pub at_times : (y : Float) → y ≡ cond (eqb (bool_byte (le sqrt2 m)) 1) (mul binary64 (significand_of x) half) (significand_of x) → ln_by (ratio y) (k + bool_byte (le sqrt2 m)) ≡ ln_of x
-  at_times y e = go (le sqrt2 m) refl (rw (← M) at e)
+  -- halved and raised by one where m is at least SQRT_2
+  pub at_either : (y : Float) → y ≡ cond (le sqrt2 m) (mul binary64 (significand_of x) half) (significand_of x) → ln_by (ratio y) (k + bool_byte (le sqrt2 m)) ≡ ln_of x
+  at_either y e = go (le sqrt2 m) refl (rw (← M) at e)
     where
-      go : (b : Bool) → le sqrt2 m ≡ b → y ≡ cond (eqb (bool_byte (le sqrt2 m)) 1) (mul binary64 m half) m → ln_by (ratio y) (k + bool_byte (le sqrt2 m)) ≡ ln_of x
+      go : (b : Bool) → le sqrt2 m ≡ b → y ≡ cond (le sqrt2 m) (mul binary64 m half) m → ln_by (ratio y) (k + bool_byte (le sqrt2 m)) ≡ ln_of x
       go true t f = rw (f, t) (at-halved t)
       go false t f = let z : k + 0 ≡ k = omega arith in rw (f, t, z) (at-whole t)
 

@@ -1,26 +1,25 @@
--- `num::float::to_u64` meets its contract: each return is a case of `proofs/Casts.antt`, or that of `part_below`. Assumes nothing.
-use Rattle.std.proofs.Common.{T, sym, subst}
+-- `num::float::to_u64` meets its contract: the whole part is an i64. Assumes nothing.
+use Rattle.std.proofs.Common.{arith}
+use Rattle.std.proofs.lemmas.Float.{T_from_true}
+use Rattle.std.proofs.lemmas.Int.{ints}
 use lib.Ieee.{of_bits}
-use Rattle.num.proofs.Casts.{at_top, within, at_bottom}
+use Rattle.num.proofs.Floors.{landing, part_cast}
 use Rattle.num.proofs.float.to_u64.Goals as goal
 
-pub part_below-requires : goal.part_below-requires
+pub whole_below-requires-clause-below_whole : goal.whole_below-requires-clause-below_whole
 unfolding of_bits
-part_below-requires c = record {
-  above_zero = subst T (sym c.if-x.true) tt;
-  below_whole = subst T (sym c.if-x-2.true) tt;
-}
+whole_below-requires-clause-below_whole c = T_from_true _ c.if-x-2.true
 
-pub truncating_f64_to_u64-requires : goal.truncating_f64_to_u64-requires
+pub float_to_int-result : goal.float_to_int-result
 unfolding of_bits
-truncating_f64_to_u64-requires c =
-    let r = within c.args.x c.if-x.true c.if-x-3.true in
-    record { lower_bound = r.0; upper_bound = r.1 }
+float_to_int-result c = rw c.whole_below.ensures (part_cast c.args.x c.if-x.true c.if-x-2.true).0
 
-pub returns-then-x : goal.returns-then-x
+pub overflow_cast-result : goal.overflow_cast-result
 unfolding of_bits
-returns-then-x c = at_top c.args.x c.if-x.true c.if-x-3.false
+overflow_cast-result c =
+    rw (c.whole_below.ensures, (part_cast c.args.x c.if-x.true c.if-x-2.true).1) (grind (arith, ints, (landing c.args.x c.if-x.true c.if-x-2.true).1))
 
-pub returns : goal.returns
+pub returns-then-x-2 : goal.returns-then-x-2
 unfolding of_bits
-returns c = at_bottom c.args.x c.if-x.false
+returns-then-x-2 c =
+    rw (c.whole_below.ensures, (part_cast c.args.x c.if-x.true c.if-x-2.true).1) (omega (arith, ints, (landing c.args.x c.if-x.true c.if-x-2.true).1))

@@ -8,6 +8,6 @@ pub returns-then-x-k : goal.returns-then-x-k
 unfolding of_bits
 returns-then-x-k c = landed-above c.args.x (is_true _ c.requires.above_zero) (is_true _ c.requires.below_whole) c.if-x-k.true
 
-pub returns : goal.returns
+pub returns-else-x-k : goal.returns-else-x-k
 unfolding of_bits
-returns c = landed-within c.args.x (is_true _ c.requires.above_zero) (is_true _ c.requires.below_whole) c.if-x-k.false
+returns-else-x-k c = landed-within c.args.x (is_true _ c.requires.above_zero) (is_true _ c.requires.below_whole) c.if-x-k.false

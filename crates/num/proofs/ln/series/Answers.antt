@@ -1,16 +1,12 @@
--- `num::ln::series` meets its contract. The loop's invariant: the steps from j down, at t, give the whole polynomial. The measure is j. Assumes nothing.
-use Rattle.std.proofs.Common.{sym, refl, ◌∙◌, arith}
-use lib.Ieee.{of_bits, of_int}
-use Rattle.num.proofs.Logarithm.{step, done}
+-- `num::ln::series` meets its contract: both sides compute to the same ten steps. Assumes nothing.
+use Rattle.std.proofs.Common.{rules, tests}
+use Rattle.std.proofs.lemmas.Iterator.{YieldsList-from_slice}
+use Rattle.std.proofs.lemmas.Iterator.Consumers.{fold_from_yields_List}
+use lib.Ieee.{Float, binary64, add, mul, div, of_bits, of_int}
+use Rattle.num.specs.Ln.{terms}
 use Rattle.num.proofs.ln.series.Goals as goal
 
-pub loop-j-init : goal.loop-j-init
-unfolding of_bits of_int
-loop-j-init c = (refl, omega arith)
-
-pub loop-j-preserved : goal.loop-j-preserved
-loop-j-preserved c =
-    (step c.args.z c.loop-j.t c.loop-j.j (omega arith) ∙ c.loop-j.invariant.0, omega arith)
-
 pub returns : goal.returns
-returns c = sym (done c.args.z c.loop-j.t c.loop-j.j (omega arith)) ∙ c.loop-j.invariant.0
+unfolding terms div of_bits of_int
+returns c =
+    fold_from_yields_List _ (λ (t r : Float). add binary64 r (mul binary64 c.args.z t)) _ _ c.fold.ensures.ran (YieldsList-from_slice _ c.iter.ensures.rest) (λ a x b q k. search (rules, tests))
