@@ -34,7 +34,7 @@ use refusals::{
     entries_refusal, lent_refusal, rates_refusal, recent_refusal, rows_refusal, truncate_refusal,
 };
 use search::look_up;
-use slices::moves::{copy_front, copy_front_u8, copy_front_u32};
+use slices::moves::copy_front;
 
 // How many block hashes are kept: those of the newest heights that have one.
 pub const RECENT_HASHES: usize = 144;
@@ -368,7 +368,7 @@ impl FeeHistory {
         let start = self.start;
         let n = self.count;
         let end = start + n;
-        copy_front_u32(out_heights, &heights[start..end]);
+        copy_front(out_heights, &heights[start..end]);
         put_marks(out_marks, marks, start, n);
         put_rates(out_rates, marks, rates, start, n);
         copy_front(out_sizes, &sizes[start..end]);
@@ -397,8 +397,8 @@ impl FeeHistory {
         }
         let n = self.hashes;
         let end = 32 * n;
-        copy_front_u32(out_heights, &heights[..n]);
-        copy_front_u8(out_bytes, &bytes[..end]);
+        copy_front(out_heights, &heights[..n]);
+        copy_front(out_bytes, &bytes[..end]);
         CountAnswer::Count(n)
     }
 }

@@ -14,4 +14,3 @@ pub mod Parting
 pub mod Halves
 pub mod Least
 pub mod Runs
-pub mod Moving

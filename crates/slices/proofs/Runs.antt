@@ -1,8 +1,7 @@
--- Laws of moved runs: the turns of the two loops that move, the length, every element, and whether the runs fit. Assumes nothing.
-use Rattle.std.proofs.Common.{◌≡◌, ℕ, suc, ◌+◌, ◌-◌, ◌<◌, ◌≤◌, Bool, true, false, cond, ◌&&◌, leb, List, ◌∷◌, ◌++◌, length, get_or, take, drop, set, sym, refl, ap, ◌∙◌, true≢false, append_assoc, add-sub_of_le, add-one, arith, length-drop, take-append-drop, length-take-le, get_or-drop, drop-cons, get_or-take, take-suc, drop-drop, take_at, get_or-append-add, drop_at, le-leb, leb-false, leb-true}
+-- Laws of moved runs: the length, every element, and whether the runs fit. Assumes nothing.
+use Rattle.std.proofs.Common.{◌≡◌, ℕ, suc, ◌+◌, ◌-◌, ◌<◌, ◌≤◌, Bool, true, false, cond, ◌&&◌, leb, List, ◌++◌, length, get_or, take, drop, set, sym, refl, ap, ◌∙◌, true≢false, append_assoc, add-sub_of_le, add-one, arith, length-drop, take-append-drop, length-take-le, get_or-drop, drop-cons, get_or-take, take-suc, drop-drop, take_at, get_or-append-add, drop_at, le-leb, leb-true}
 use lib.ListN.{get_or-append}
-use lib.Seq.{take-length, paste-zero, paste-suc, length-paste, length_paste_head, set_at, append_snoc}
-use borrow.Author.Tests.{lt-leb}
+use lib.Seq.{paste-zero, length-paste, length_paste_head, set_at, append_snoc}
 use Rattle.slices.specs.Lists.{moved, both_fit, copy_within, copy_front}
 
 module _ {A : Type 0} where
@@ -60,64 +59,8 @@ module _ {A : Type 0} where
         ∙ ap (λ (ys : List A). take n ys) (drop_at (take to xs) (take n (drop from xs) ++ drop (to + n) xs) to l)
         ∙ take_at (take n (drop from xs)) (drop (to + n) xs) n k
 
-  -- a turn of the loop that goes up
-  pub down_turn : (ys xs : List A) (to from j : ℕ) (z : A) → ys ≡ moved xs to from j → to ≤ from → from + j < length xs
-      → set ys (to + j) (get_or ys (from + j) z) ≡ moved xs to from (j + 1)
-  unfolding moved
-  down_turn ys xs to from j z e h g =
-      let v : get_or ys (from + j) z ≡ get_or (drop from xs) j z
-      = ap (λ (l : List A). get_or l (from + j) z) e
-      ∙ moved-above xs to from j z (omega arith) (omega arith) (from + j) (omega arith)
-      ∙ sym (get_or-drop from xs j z) in
-      ap (λ (a : A). set ys (to + j) a) v
-      ∙ ap (λ (l : List A). set l (to + j) (get_or (drop from xs) j z)) e
-      ∙ paste-suc xs to (drop from xs) j z (omega arith) (rw length-drop (omega arith))
-      ∙ ap (λ (k : ℕ). moved xs to from k) (sym (add-one j))
-
-  -- a store of the element at from, at to, takes what was moved from behind the two to what is moved from them on
-  up_step : (xs : List A) (to from m : ℕ) (z : A) → from ≤ to → suc to + m ≤ length xs
-      → set (moved xs (suc to) (suc from) m) to (get_or (moved xs (suc to) (suc from) m) from z) ≡ moved xs to from (suc m)
-  unfolding moved
-  up_step xs to from m z h g =
-      let v : get_or (moved xs (suc to) (suc from) m) from z ≡ get_or xs from z
-      = moved-below xs (suc to) (suc from) m z g (omega arith) from (omega arith) in
-      let r : List A = take m (drop (suc from) xs) in
-      let q : List A = drop (suc to + m) xs in
-      let l : length (take to xs) ≡ to = length-take-le to xs (omega arith) in
-      let f : drop from xs ≡ get_or xs from z ∷ drop (suc from) xs = drop-cons xs from z (omega arith) in
-      let k : to + suc m ≡ suc to + m = omega arith in
-      ap (λ (a : A). set (take (suc to) xs ++ r ++ q) to a) v
-      ∙ ap (λ (ys : List A). set (ys ++ r ++ q) to (get_or xs from z)) (take-suc xs to z (omega arith))
-      ∙ ap (λ (ys : List A). set (ys ++ q) to (get_or xs from z)) (append_snoc (take to xs) (get_or xs to z) r)
-      ∙ ap (λ (ys : List A). set ys to (get_or xs from z)) (append_assoc (take to xs) (get_or xs to z ∷ r) q)
-      ∙ set_at (take to xs) (get_or xs to z) (r ++ q) (get_or xs from z) to l
-      ∙ sym (append_assoc (take to xs) (get_or xs from z ∷ r) q)
-      ∙ sym (rw (f, k))
-
-  -- a turn of the loop that goes down
-  pub up_turn : (ys xs : List A) (to from n i : ℕ) (z : A) → ys ≡ moved xs (to + i) (from + i) (n - i) → from ≤ to → to + n ≤ length xs → 0 < i → i ≤ n
-      → set ys (to + (i - 1)) (get_or ys (from + (i - 1)) z) ≡ moved xs (to + (i - 1)) (from + (i - 1)) (n - (i - 1))
-  up_turn ys xs to from n i z e h g p q =
-      let a : to + i ≡ suc (to + (i - 1)) = omega arith in
-      let b : from + i ≡ suc (from + (i - 1)) = omega arith in
-      let d : n - (i - 1) ≡ suc (n - i) = omega arith in
-      let f : ys ≡ moved xs (suc (to + (i - 1))) (suc (from + (i - 1))) (n - i) = rw (← a, ← b) e in
-      rw (f, d) (up_step xs (to + (i - 1)) (from + (i - 1)) (n - i) z (omega arith) (omega arith))
-
--- whether both runs fit, by the tests that the code makes
+-- where both runs fit
 module _ (len to from n : ℕ) where
-  pub to-past : len < to + n → false ≡ both_fit len to from n
-  unfolding both_fit
-  to-past h = sym (rw (lt-leb (to + n) len h))
-
-  pub to-fits : to + n ≤ len → leb from (len - n) ≡ both_fit len to from n
-  unfolding both_fit
-  to-fits h = rw (le-leb (to + n) len h) (go (leb from (len - n)) refl)
-    where
-      go : (b : Bool) → leb from (len - n) ≡ b → b ≡ leb (from + n) len
-      go true e = sym (le-leb (from + n) len (omega (arith, leb-true from (len - n) e)))
-      go false e = sym (lt-leb (from + n) len (omega (arith, leb-false from (len - n) e)))
-
   pub fitting : both_fit len to from n ≡ true → (to + n ≤ len) × (from + n ≤ len)
   unfolding both_fit
   fitting e = go (leb (to + n) len) refl e
@@ -157,7 +100,10 @@ module _ {A : Type 0} (xs : List A) (to from n : ℕ) where
   unfolding copy_within both_fit
   copied h g = rw (le-leb (to + n) (length xs) h, le-leb (from + n) (length xs) g)
 
--- a list copied to the front of another: the first i elements, one more, and all
+-- for the proof of `copy_within`
+pub ruleset copy_laws = (fitting, copy_done, copy-none, copy-same)
+
+-- a list copied to the front of another, for callers: one more element, and what stands in front
 module _ {A : Type 0} (xs ys : List A) where
   pub front_turn : (zs : List A) (i : ℕ) (z : A) → i < length ys → i < length xs → zs ≡ take i ys ++ drop i xs → set zs i (get_or ys i z) ≡ take (i + 1) ys ++ drop (i + 1) xs
   front_turn zs i z r q e =
@@ -167,16 +113,6 @@ module _ {A : Type 0} (xs ys : List A) where
       ∙ sym (append_snoc (take i ys) (get_or ys i z) (drop (suc i) xs))
       ∙ rw (add-one i, take-suc ys i z r)
 
-  pub front-none : length xs < length ys → xs ≡ copy_front xs ys
-  unfolding copy_front
-  front-none h = sym (rw (lt-leb (length ys) (length xs) h))
-
-  pub front-done : (zs : List A) (i : ℕ) → length ys ≤ length xs → i ≡ length ys → zs ≡ take i ys ++ drop i xs → zs ≡ copy_front xs ys
-  unfolding copy_front
-  front-done zs i h e q =
-      q ∙ ap (λ k. take k ys ++ drop k xs) e ∙ ap (λ l. l ++ drop (length ys) xs) (take-length ys) ∙ sym (rw (le-leb (length ys) (length xs) h))
-
-  -- for callers: what stands in front
   pub front-copied : length ys ≤ length xs → take (length ys) (copy_front xs ys) ≡ ys
   unfolding copy_front
   front-copied h = rw (le-leb (length ys) (length xs) h) (take_at ys (drop (length ys) xs) (length ys) refl)

@@ -28,8 +28,8 @@ fn move_regions(s: AnalogHistory, to: usize, befores: &mut [f64], aheads: &mut [
     let mut d = 0;
     while d < s.tracked {
         let base = d * s.capacity;
-        slices::moves::copy_within_f64(befores, base + to, base + s.start, s.count);
-        slices::moves::copy_within_u64(aheads, base + to, base + s.start, s.count);
+        slices::moves::copy_within(befores, base + to, base + s.start, s.count);
+        slices::moves::copy_within(aheads, base + to, base + s.start, s.count);
         d += 1;
     }
 }
@@ -46,7 +46,7 @@ fn move_to(
     requires valid { Valid s (length hurdles.old) (length befores.old) (length aheads.old) }
     ensures { windows result hurdles.new befores.new aheads.new ≡ moved_to to (windows s hurdles.old befores.old aheads.old) }
 {
-    slices::moves::copy_within_u64(hurdles, to, s.start, s.count);
+    slices::moves::copy_within(hurdles, to, s.start, s.count);
     move_regions(s, to, befores, aheads);
     placed(s, to, s.count)
 }

@@ -5,15 +5,15 @@ ghost use Rattle.rbitcoin_net.specs.Hashes.{hash_list, hash_of, Room, moved_hash
 
 use super::search::{is_at, lower_bound};
 use super::{BlockHash, RECENT_HASHES};
-use slices::moves::{copy_front_u8, copy_within_u8, copy_within_u32};
+use slices::moves::{copy_front, copy_within};
 
 // n hashes at place `from`, also at place `to`.
 fn move_hashes(heights: &mut [u32], bytes: &mut [u8], to: usize, from: usize, n: usize)
     requires { (to + n ≤ 144) × (from + n ≤ 144) × (144 ≤ length heights.old) × (4608 ≤ length bytes.old) }
     ensures { hashes heights.new bytes.new ≡ moved_hashes to from n (hashes heights.old bytes.old) }
 {
-    copy_within_u32(heights, to, from, n);
-    copy_within_u8(bytes, 32 * to, 32 * from, 32 * n);
+    copy_within(heights, to, from, n);
+    copy_within(bytes, 32 * to, 32 * from, 32 * n);
 }
 
 fn put_hash(heights: &mut [u32], bytes: &mut [u8], q: usize, height: u32, hash: [u8; 32])
@@ -23,7 +23,7 @@ fn put_hash(heights: &mut [u32], bytes: &mut [u8], q: usize, height: u32, hash: 
     heights[q] = height;
     let a = 32 * q;
     let e = a + 32;
-    copy_front_u8(&mut bytes[a..e], &hash);
+    copy_front(&mut bytes[a..e], &hash);
 }
 
 // The hash of a height dropped, if it is kept; the number that is left.

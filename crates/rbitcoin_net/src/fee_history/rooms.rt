@@ -7,7 +7,7 @@ ghost use Rattle.rbitcoin_net.specs.Rooms.{row_put, start_with, stored, hold_at,
 use super::{FeeHistory, HistoricalFeeBlock};
 use num::word::saturating_add;
 use rbitcoin_mempool::answer::Rate;
-use slices::moves::{copy_within_u8, copy_within_u32, copy_within_u64};
+use slices::moves::copy_within;
 
 // Where the rows start with one more at rank q.
 fn start_with(s: FeeHistory, q: usize) -> usize
@@ -34,13 +34,13 @@ fn open_u32(xs: &mut [u32], from: usize, to: usize, q: usize, r: usize, v: u32)
     ensures { xs.new ≡ row_put from to q r v xs.old }
 {
     if to <= from {
-        copy_within_u32(xs, to, from, q);
-        copy_within_u32(xs, to + q + 1, from + q, r);
+        copy_within(xs, to, from, q);
+        copy_within(xs, to + q + 1, from + q, r);
         xs[to + q] = v;
         return;
     }
-    copy_within_u32(xs, to + q + 1, from + q, r);
-    copy_within_u32(xs, to, from, q);
+    copy_within(xs, to + q + 1, from + q, r);
+    copy_within(xs, to, from, q);
     xs[to + q] = v;
 }
 
@@ -49,13 +49,13 @@ fn open_u8(xs: &mut [u8], from: usize, to: usize, q: usize, r: usize, v: u8)
     ensures { xs.new ≡ row_put from to q r v xs.old }
 {
     if to <= from {
-        copy_within_u8(xs, to, from, q);
-        copy_within_u8(xs, to + q + 1, from + q, r);
+        copy_within(xs, to, from, q);
+        copy_within(xs, to + q + 1, from + q, r);
         xs[to + q] = v;
         return;
     }
-    copy_within_u8(xs, to + q + 1, from + q, r);
-    copy_within_u8(xs, to, from, q);
+    copy_within(xs, to + q + 1, from + q, r);
+    copy_within(xs, to, from, q);
     xs[to + q] = v;
 }
 
@@ -64,13 +64,13 @@ fn open_u64(xs: &mut [u64], from: usize, to: usize, q: usize, r: usize, v: u64)
     ensures { xs.new ≡ row_put from to q r v xs.old }
 {
     if to <= from {
-        copy_within_u64(xs, to, from, q);
-        copy_within_u64(xs, to + q + 1, from + q, r);
+        copy_within(xs, to, from, q);
+        copy_within(xs, to + q + 1, from + q, r);
         xs[to + q] = v;
         return;
     }
-    copy_within_u64(xs, to + q + 1, from + q, r);
-    copy_within_u64(xs, to, from, q);
+    copy_within(xs, to + q + 1, from + q, r);
+    copy_within(xs, to, from, q);
     xs[to + q] = v;
 }
 

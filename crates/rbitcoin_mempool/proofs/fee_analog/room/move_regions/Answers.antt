@@ -78,12 +78,12 @@ loop-d-preserved c =
     let h : c.loop-d.d < c.args.s.tracked = c.loop-d-test.true in (
       omega arith,
       (
-        c.copy_within_f64.auto.xs ∙ c.loop-d.invariant.1.0,
+        c.copy_within.auto.xs ∙ c.loop-d.invariant.1.0,
         (
-          c.copy_within_u64.auto.xs ∙ c.loop-d.invariant.1.1.0,
+          c.copy_within-in-loop-d.auto.xs ∙ c.loop-d.invariant.1.1.0,
           (
-            each_more _ c.loop-d.befores _ _ c.loop-d.d c.loop-d.invariant.1.1.1.0 (c.copy_within_f64.ensures ∙ copied c.loop-d.befores _ _ _ (omega arith) (omega arith)),
-            each_more _ c.loop-d.aheads _ _ c.loop-d.d c.loop-d.invariant.1.1.1.1 (c.copy_within_u64.ensures ∙ copied c.loop-d.aheads _ _ _ (omega arith) (omega arith)),
+            each_more _ c.loop-d.befores _ _ c.loop-d.d c.loop-d.invariant.1.1.1.0 (c.copy_within.ensures ∙ copied c.loop-d.befores _ _ _ (omega arith) (omega arith)),
+            each_more _ c.loop-d.aheads _ _ c.loop-d.d c.loop-d.invariant.1.1.1.1 (c.copy_within-in-loop-d.ensures ∙ copied c.loop-d.aheads _ _ _ (omega arith) (omega arith)),
           ),
         ),
       ),

@@ -10,5 +10,5 @@ unfolding moved_to
 returns c =
     let v = c.requires.valid in
     windows-eq c.placed.ensures
-    (c.copy_within_u64.ensures ∙ copied c.args.hurdles.now c.args.to c.args.s.start c.args.s.count (omega arith) (omega arith))
+    (c.copy_within.ensures ∙ copied c.args.hurdles.now c.args.to c.args.s.start c.args.s.count (omega arith) (omega arith))
     c.move_regions.ensures.befores_after c.move_regions.ensures.aheads_after

@@ -20,14 +20,14 @@ offset_bounds-heights-start c =
     let h : c.args.self.start + c.args.self.count ≤ 65536 = (entries_fit c.args.self _ _ _ _ _ _ _ _ (sym c.entries_refusal-refusal.ensures ∙ c.if-refusal-ne0.false)).0 in
     omega arith
 
-pub slice_bounds-copy_front_u32-end : goal.slice_bounds-copy_front_u32-end
-slice_bounds-copy_front_u32-end c =
+pub slice_bounds-copy_front-end : goal.slice_bounds-copy_front-end
+slice_bounds-copy_front-end c =
     let a = c.args in
     let h : a.self.start + a.self.count ≤ length a.heights.now = (entries_fit a.self _ _ _ _ _ _ _ _ (sym c.entries_refusal-refusal.ensures ∙ c.if-refusal-ne0.false)).1.heights in
     omega arith
 
-pub slice_bounds-copy_front-end : goal.slice_bounds-copy_front-end
-slice_bounds-copy_front-end c =
+pub slice_bounds-copy_front-end-2 : goal.slice_bounds-copy_front-end-2
+slice_bounds-copy_front-end-2 c =
     let a = c.args in
     let h : a.self.start + a.self.count ≤ length a.sizes.now = (entries_fit a.self _ _ _ _ _ _ _ _ (sym c.entries_refusal-refusal.ensures ∙ c.if-refusal-ne0.false)).1.sizes in
     omega arith
@@ -57,7 +57,7 @@ returns c =
     let r = f.1 in
     let o = f.2 in
     entries-written _ _ _ c.entries_refusal-refusal.result _ c.entries_refusal-refusal.ensures c.if-refusal-ne0.false
-    (c.copy_front_u32.ensures ∙ part-written _ _ _ _ _ refl r.heights o.heights)
+    (c.copy_front.ensures ∙ part-written _ _ _ _ _ refl r.heights o.heights)
     c.put_marks.ensures
     c.put_rates.ensures
-    (c.copy_front.ensures ∙ part-written _ _ _ _ _ refl r.sizes o.sizes)
+    (c.copy_front-2.ensures ∙ part-written _ _ _ _ _ refl r.sizes o.sizes)

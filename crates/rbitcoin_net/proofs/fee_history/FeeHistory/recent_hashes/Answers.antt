@@ -12,15 +12,15 @@ returns-then-refusal-ne0 c = recent-refused _ _ _ c.recent_refusal-refusal.resul
 pub overflow_mul-end : goal.overflow_mul-end
 overflow_mul-end c = let f = recent-fits _ _ _ _ _ (sym c.recent_refusal-refusal.ensures ∙ c.if-refusal-ne0.false) in omega arith
 
-pub slice_bounds-copy_front_u32-end : goal.slice_bounds-copy_front_u32-end
-slice_bounds-copy_front_u32-end c = sym (length-take-le _ _ (recent-fits _ _ _ _ _ (sym c.recent_refusal-refusal.ensures ∙ c.if-refusal-ne0.false)).heights)
+pub slice_bounds-copy_front-end : goal.slice_bounds-copy_front-end
+slice_bounds-copy_front-end c = sym (length-take-le _ _ (recent-fits _ _ _ _ _ (sym c.recent_refusal-refusal.ensures ∙ c.if-refusal-ne0.false)).heights)
 
-pub slice_bounds-copy_front_u8-end : goal.slice_bounds-copy_front_u8-end
-slice_bounds-copy_front_u8-end c = sym (length-take-le _ _ (recent-fits _ _ _ _ _ (sym c.recent_refusal-refusal.ensures ∙ c.if-refusal-ne0.false)).bytes)
+pub slice_bounds-copy_front-end-2 : goal.slice_bounds-copy_front-end-2
+slice_bounds-copy_front-end-2 c = sym (length-take-le _ _ (recent-fits _ _ _ _ _ (sym c.recent_refusal-refusal.ensures ∙ c.if-refusal-ne0.false)).bytes)
 
 pub returns : goal.returns
 returns c =
     let f = recent-fits _ _ _ _ _ (sym c.recent_refusal-refusal.ensures ∙ c.if-refusal-ne0.false) in
     recent-written _ _ _ c.recent_refusal-refusal.result _ c.recent_refusal-refusal.ensures c.if-refusal-ne0.false
-    (c.copy_front_u32.ensures ∙ front-written _ _ _ f.heights f.to-heights)
-    (c.copy_front_u8.ensures ∙ front-written _ _ _ f.bytes f.to-bytes)
+    (c.copy_front.ensures ∙ front-written _ _ _ f.heights f.to-heights)
+    (c.copy_front-2.ensures ∙ front-written _ _ _ f.bytes f.to-bytes)

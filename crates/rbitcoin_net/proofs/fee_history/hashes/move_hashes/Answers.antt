@@ -7,6 +7,6 @@ use Rattle.rbitcoin_net.proofs.fee_history.hashes.move_hashes.Goals as goal
 
 pub returns : goal.returns
 returns c =
-    let e = c.copy_within_u32.ensures ∙ copied c.args.heights.now _ _ _ (omega arith) (omega arith) in
-    let d = c.copy_within_u8.ensures ∙ copied c.args.bytes.now _ _ _ (omega arith) (omega arith) in
+    let e = c.copy_within.ensures ∙ copied c.args.heights.now _ _ _ (omega arith) (omega arith) in
+    let d = c.copy_within-2.ensures ∙ copied c.args.bytes.now _ _ _ (omega arith) (omega arith) in
     λ i. hashes (e i) (d i)

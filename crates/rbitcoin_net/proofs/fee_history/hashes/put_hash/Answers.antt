@@ -13,5 +13,5 @@ pub returns : goal.returns
 returns c =
     let l : length c.args.hash ≡ 32 = search rules in
     let x = c.args.bytes.now in
-    let e = ap (λ (y : List ℕ). take (32 * c.args.q) x ++ (y ++ drop (32 * c.args.q + 32 - 32 * c.args.q) (drop (32 * c.args.q) x))) c.copy_front_u8.ensures ∙ put-bytes x c.args.hash (32 * c.args.q) l (omega (arith, c.requires)) in
+    let e = ap (λ (y : List ℕ). take (32 * c.args.q) x ++ (y ++ drop (32 * c.args.q + 32 - 32 * c.args.q) (drop (32 * c.args.q) x))) c.copy_front.ensures ∙ put-bytes x c.args.hash (32 * c.args.q) l (omega (arith, c.requires)) in
     ap (hashes (set c.args.heights.now c.args.q c.args.height)) e
