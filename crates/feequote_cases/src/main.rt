@@ -2,7 +2,7 @@
 // file stdout, which was worked out by hand from document 01.
 #![tactic(auto)]
 
-use quote_lines::board::{Board, feed, finish, new};
+use quote_lines::reader::Reader;
 use std::io;
 
 fn close(rt: &impl Print, out: &[u8]) -> io::Result<()> {
@@ -11,9 +11,7 @@ fn close(rt: &impl Print, out: &[u8]) -> io::Result<()> {
 }
 
 fn answer(rt: &impl Print, input: &[u8]) -> io::Result<()> {
-    let mut out = [0u8; 4096];
-    let n = quote_board::quote(input, &mut out);
-    close(rt, &out[..n])
+    close(rt, &quote_board::quote(input))
 }
 
 // An input that comes in parts, the middle one many times.
@@ -24,35 +22,13 @@ fn in_parts(
     times: u32,
     end: &[u8],
 ) -> io::Result<()> {
-    let mut depths = [0u32; 64];
-    let mut rates = [0u64; 64];
-    let mut marks = [0u8; 64];
-    let mut targets = [0u32; 64];
-    let mut r = feed(
-        new(),
-        start,
-        &mut depths,
-        &mut rates,
-        &mut marks,
-        &mut targets,
-    );
-    let mut left = times;
-    while left > 0 {
-        r = feed(r, middle, &mut depths, &mut rates, &mut marks, &mut targets);
-        left -= 1;
+    let mut reader = Reader::new();
+    reader.feed(start);
+    for _ in 0..times {
+        reader.feed(middle);
     }
-    r = feed(r, end, &mut depths, &mut rates, &mut marks, &mut targets);
-    let counts = finish(r, &mut depths, &mut rates, &mut marks, &mut targets);
-    let board = Board {
-        counts,
-        depths,
-        rates,
-        marks,
-        targets,
-    };
-    let mut out = [0u8; 4096];
-    let n = quote_board::write(board, &mut out);
-    close(rt, &out[..n])
+    reader.feed(end);
+    close(rt, &quote_board::text(reader.finish()))
 }
 
 // Case M, and inputs that are well-formed.

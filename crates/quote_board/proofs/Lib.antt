@@ -1,4 +1,3 @@
 -- Laws that the functions' proofs cite, and that no target is refused.
 pub mod Answered
-pub mod Boards
 pub mod Writing

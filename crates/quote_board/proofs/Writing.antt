@@ -1,48 +1,23 @@
 -- Texts written one behind the other, and the length of a number's digits. Assumes nothing.
 use Prim.Native.Nat.{ℕ, zero, suc, ◌+◌, ◌-◌, ◌/◌, ◌^◌, ◌≤◌, ◌<◌}
-use native.Mathlib.Nat.{add_assoc, add-zero, le_trans, lt_irrefl, lt_of_lt_of_le, pow-le-pow_right}
+use native.Mathlib.Nat.{le_trans, lt_irrefl, lt_of_lt_of_le, pow-le-pow_right}
 use native.Mathlib.Decide.{dec_le}
 use native.Mathlib.Omega.{arith}
 use native.Mathlib.Numerals.{add-one}
 use mathlib.Core.Path.{◌≡◌, refl, ap, sym, ◌∙◌}
 use mathlib.Core.List.{List, [], ◌∷◌, ◌++◌, append_assoc, append-nil}
 use lib.Dec.{ltb, lit<, lit≤}
-use lib.ListN.{length, get_or, take, drop, length-append}
-use lib.Seq.{paste, paste-zero, take_at, take-suc, drop_at, drop-drop, take-length, length-take-le}
+use lib.ListN.{length, get_or, take, length-append}
+use lib.Seq.{take-suc}
 use borrow.Author.Tests.{lt-ltb, le-ltb}
-use Rattle.io.specs.Counts.{IsPrefixLen}
 use Rattle.io.specs.Digits.{last_digits, IsDigitCount}
 use Rattle.slices.specs.Search.{seek}
 use Rattle.slices.proofs.Search.{seek_is, sought}
-use Rattle.rbitcoin_mempool.specs.Answer.{Answer, rate, none, refusal}
-use Rattle.quote_board.specs.Text.{width, decimal, rate_text, quote_lines, quote_line, behind, Wrote}
-
-module _ (d : List ℕ) (at : ℕ) (s : List ℕ) (h : at ≤ length d) where
-  head-length : length (take at d ++ s) ≡ at + length s
-  head-length = length-append (take at d) s ∙ ap (λ (k : ℕ). k + length s) (length-take-le at d h)
-
-  behind-behind : (t : List ℕ) → behind (behind d at s) (at + length s) t ≡ behind d at (s ++ t)
-  unfolding behind
-  behind-behind t =
-      let x : List ℕ = take at d ++ s ++ drop (at + length s) d in
-      let m = at + length s in
-      let e1 : take m x ≡ take at d ++ s = take_at (take at d ++ s) (drop m d) m head-length in
-      let e2 : drop (m + length t) x ≡ drop (at + length (s ++ t)) d =
-      sym (drop-drop (length t) m x)
-      ∙ ap (drop (length t)) (drop_at (take at d ++ s) (drop m d) m head-length)
-      ∙ drop-drop (length t) m d
-      ∙ ap (λ (k : ℕ). drop k d) (add_assoc at (length s) (length t) ∙ ap (λ (k : ℕ). at + k) (sym (length-append s t))) in
-      ap (λ (p : List ℕ). p ++ t ++ drop (m + length t) x) e1
-      ∙ ap (λ (p : List ℕ). take at d ++ s ++ t ++ p) e2
-      ∙ ap (λ (p : List ℕ). p ++ drop (at + length (s ++ t)) d) (append_assoc (take at d) s t)
-
--- one text behind the other
-pub wrote_more : (d : List ℕ) (at : ℕ) (s d' : List ℕ) (r : ℕ) (t d'' : List ℕ) (q : ℕ) → at ≤ length d → Wrote d at s d' r → Wrote d' r t d'' q → Wrote d at (s ++ t) d'' q
-wrote_more d at s d' r t d'' q h w v =
-    record {
-      place = v.place ∙ ap (λ (k : ℕ). k + length t) w.place ∙ add_assoc at (length s) (length t) ∙ ap (λ (k : ℕ). at + k) (sym (length-append s t));
-      whole = v.whole ∙ ap (λ (x : List ℕ). behind x r t) w.whole ∙ ap (λ (k : ℕ). behind (behind d at s) k t) w.place ∙ behind-behind d at s h t;
-    }
+use Rattle.rbitcoin_mempool.specs.Answer.{Answer, rate, none, refusal, answer}
+use Rattle.rbitcoin_mempool.specs.declared.answer.RateAnswer.{RateAnswer}
+use Rattle.rbitcoin_mempool.specs.declared.answer.RateAnswer.TheVariants.{Found, Nothing, Refused}
+use Rattle.quote_lines.specs.Bytes.{dash}
+use Rattle.quote_board.specs.Text.{width, decimal, rate_text, quote_lines, quote_line}
 
 -- ---- digits
 digits-length : (b k n : ℕ) → length (last_digits b k n) ≡ k
@@ -73,26 +48,22 @@ pub decimal_short : (n : ℕ) → length (decimal n) ≤ 20
 unfolding decimal width
 decimal_short n = rw (digits-length 10 (seek (λ k. ltb n (10 ^ k)) 1 19) n) (sought (λ k. ltb n (10 ^ k)) 1 19).to
 
+-- what is no rate is written as `-`
+pub no_rate : (a : RateAnswer) → ((r : ℕ) → a ≡ Found r → ⊥) → rate_text (answer a) ≡ dash ∷ []
+unfolding rate_text
+no_rate (Found r) h = absurd (h r refl)
+no_rate Nothing h = refl
+no_rate (Refused k) h = refl
+
+pub rate_is : (a : RateAnswer) (r : ℕ) → a ≡ Found r → rate_text (answer a) ≡ decimal r
+unfolding rate_text
+rate_is a r e = rw e
+
 pub rate_short : (a : Answer) → length (rate_text a) ≤ 20
 unfolding rate_text
 rate_short (rate r) = decimal_short r
 rate_short none = lit≤ tt
 rate_short (refusal k) = lit≤ tt
-
--- a whole text copied
-pub pasted : (d : List ℕ) (at : ℕ) (t : List ℕ) (i : ℕ) → i ≤ length t → length t ≤ i → Wrote d at t (paste d at t i) (at + i)
-unfolding behind
-pasted d at t i a b =
-    let e : i ≡ length t = omega arith in
-    record {
-      place = ap (λ (k : ℕ). at + k) e;
-      whole = ap (paste d at t) e ∙ ap (λ (x : List ℕ). take at d ++ x ++ drop (at + length t) d) (take-length t);
-    }
-
--- nothing written
-pub wrote_none : (d : List ℕ) (at : ℕ) → Wrote d at [] d at
-unfolding behind
-wrote_none d at = record { place = sym (add-zero at); whole = paste-zero d at [] }
 
 -- ---- the lines of targets, one more
 module _ (ds rs ms : List ℕ) where
@@ -114,10 +85,3 @@ module _ (ds rs ms : List ℕ) where
       ap (λ (x : List ℕ). quote_lines ds rs ms (take i ts) ++ x) (sym (quotes-one (get_or ts i 0)))
       ∙ sym (quotes_append (take i ts) (get_or ts i 0 ∷ []))
       ∙ ap (quote_lines ds rs ms) (sym (take-suc ts i 0 h) ∙ ap (λ (k : ℕ). take k ts) (sym (add-one i)))
-
--- the place behind a text that was written from the start is within the list
-pub wrote-counts : (d t d' : List ℕ) (r : ℕ) → Wrote d 0 t d' r → IsPrefixLen r d'
-unfolding behind
-wrote-counts d t d' r w =
-    let h : r ≤ length d' = omega (arith, w.place, simp length-append at (ap length w.whole)) in
-    (h, sym (length-take-le r d' h))

@@ -1,12 +1,12 @@
 -- What `feequote` writes, after document 01, case M. Definitions only.
-use Rattle.std.specs.Prelude.{ℕ, ◌+◌, ◌^◌, ◌≡◌, List, [], ◌∷◌, ◌++◌, ltb, length, take, drop}
+use Rattle.std.specs.Prelude.{ℕ, ◌^◌, List, [], ◌∷◌, ◌++◌, ltb}
 use Rattle.io.specs.Digits.{last_digits}
 use Rattle.slices.specs.Search.{seek}
 use Rattle.rbitcoin_mempool.specs.Answer.{Answer, rate, none, refusal}
 use Rattle.rbitcoin_mempool.specs.Hold.{held_numbers, held_marks}
 use Rattle.rbitcoin_mempool.specs.Target.{fee_at_target_sat_kvb}
 use Rattle.quote_lines.specs.Bytes.{newline, space, dash}
-use Rattle.quote_lines.specs.Format.{Input, board, bad_line, parse}
+use Rattle.quote_lines.specs.Format.{Board, Input, board, bad_line, parse}
 
 -- a number below 10^20 in the fewest decimal digits
 unfoldable pub width : ℕ → ℕ
@@ -36,19 +36,20 @@ header = 116 ∷ 97 ∷ 114 ∷ 103 ∷ 101 ∷ 116 ∷ 32 ∷ 114 ∷ 97 ∷ 11
 abbrev pub bad_start : List ℕ
 bad_start = 98 ∷ 97 ∷ 100 ∷ 32 ∷ 108 ∷ 105 ∷ 110 ∷ 101 ∷ 32 ∷ []
 
+-- the board as the hold pass leaves it
+abbrev pub held : Board → Board
+held b = record { depths = b.depths; rates = held_numbers b.rates b.marks; marks = held_marks b.rates b.marks; targets = b.targets }
+
+abbrev pub quotes : Board → List ℕ
+quotes b = header ++ quote_lines b.depths (held_numbers b.rates b.marks) (held_marks b.rates b.marks) b.targets
+
+abbrev pub bad_text : ℕ → List ℕ
+bad_text n = bad_start ++ decimal n ++ (newline ∷ [])
+
 unfoldable pub text : Input → List ℕ
-text (board b) = header ++ quote_lines b.depths (held_numbers b.rates b.marks) (held_marks b.rates b.marks) b.targets
-text (bad_line n) = bad_start ++ decimal n ++ (newline ∷ [])
+text (board b) = quotes b
+text (bad_line n) = bad_text n
 
 -- what is written for an input
 unfoldable pub feequote : List ℕ → List ℕ
 feequote input = text (parse input)
-
--- a list with t written into it from a place on
-unfoldable pub behind : List ℕ → ℕ → List ℕ → List ℕ
-behind d at t = take at d ++ t ++ drop (at + length t) d
-
--- t was written from a place on, up to r
-pub record Wrote (d : List ℕ) (at : ℕ) (t : List ℕ) (d' : List ℕ) (r : ℕ) : Type 0 where
-  pub place : r ≡ at + length t
-  pub whole : d' ≡ behind d at t

@@ -1,160 +1,117 @@
-// What `feequote` answers, as text: the quotes of a board, or its first bad line (document 01,
-// case M). The text goes to an array that the caller lends; places past it are left as found.
+// What `feequote` answers, as text: the quotes of a board, or the first bad line (document 01, case M).
 #![tactic(auto)]
 
-ghost use Rattle.std.specs.Prelude.{◌≡◌, [], ◌∷◌, ◌++◌, ◌+◌, ◌*◌, ◌≤◌, ◌<◌, min, length};
-ghost use Rattle.io.specs.Counts.{IsPrefixLen};
+ghost use Rattle.std.specs.Prelude.{◌≡◌, [], ◌∷◌, ◌++◌, ◌+◌, ◌*◌, ◌≤◌, length};
+ghost use Rattle.arrayvec.specs.ArrayVec.{array_vec_len};
 ghost use Rattle.rbitcoin_mempool.specs.Answer.{answer};
-ghost use Rattle.rbitcoin_mempool.specs.Hold.{held_numbers, held_marks};
-ghost use Rattle.quote_lines.specs.Store.{kept_of, seen};
+ghost use Rattle.quote_lines.specs.Store.{seen};
 ghost use Rattle.quote_lines.specs.Bytes.{newline};
-ghost use Rattle.quote_board.specs.Text.{Wrote, decimal, rate_text, quote_line, quote_lines, header, bad_start, text, feequote};
+ghost use Rattle.quote_board.specs.Text.{held, decimal, rate_text, quote_line, quote_lines, quotes, bad_text, text, feequote};
 
-use quote_lines::board::Board;
+use arrayvec::ArrayVec;
+use quote_lines::board::{BadLine, Board};
+use quote_lines::reader::read;
 use rbitcoin_mempool::answer::RateAnswer;
 use rbitcoin_mempool::fee_est::{fee_at_target_sat_kvb, hold_defined_then_monotone};
 
-fn put(out: &mut [u8], at: usize, t: &[u8]) -> usize
-    requires { at + length t.now ≤ length out.old }
-    ensures { Wrote out.old at t.now out.new result }
+// An answer. The longest is the header, 12 bytes, and 64 lines of at most 42.
+pub type Text = ArrayVec<u8, 4096>;
+
+fn put(out: &mut Text, t: &[u8])
+    requires { array_vec_len out.old + length t.now ≤ 4096 }
+    ensures text { out.new.items ≡ out.old.items ++ t.now }
+    ensures len { array_vec_len out.new ≡ array_vec_len out.old + length t.now }
 {
-    let mut i = 0;
-    while i < t.len() {
-        out[at + i] = t[i];
-        i += 1;
-    }
-    at + i
+    let _fits = out.try_extend_from_slice(t);
 }
 
-fn put_decimal(out: &mut [u8], at: usize, n: u64) -> usize
-    requires { at + 20 ≤ length out.old }
-    ensures { Wrote out.old at (decimal n) out.new result }
+fn put_decimal(out: &mut Text, n: u64)
+    requires { array_vec_len out.old + 20 ≤ 4096 }
+    ensures text { out.new.items ≡ out.old.items ++ decimal n }
+    ensures upper_bound { array_vec_len out.new ≤ array_vec_len out.old + 20 }
 {
-    let mut t = [0u8; 20];
-    let k = io::decimal(n, &mut t);
-    put(out, at, &t[..k])
+    let mut digits = [0; 20];
+    let count = io::decimal(n, &mut digits);
+    put(out, &digits[..count]);
 }
 
-fn put_rate(out: &mut [u8], at: usize, rate: RateAnswer) -> usize
-    requires { at + 20 ≤ length out.old }
-    ensures { Wrote out.old at (rate_text (answer rate)) out.new result }
+fn put_rate(out: &mut Text, rate: RateAnswer)
+    requires { array_vec_len out.old + 20 ≤ 4096 }
+    ensures text { out.new.items ≡ out.old.items ++ rate_text (answer rate) }
+    ensures upper_bound { array_vec_len out.new ≤ array_vec_len out.old + 20 }
 {
     match rate {
-        RateAnswer::Found(r) => put_decimal(out, at, r),
-        RateAnswer::Nothing => put(out, at, b"-"),
-        RateAnswer::Refused(_) => put(out, at, b"-"),
+        RateAnswer::Found(rate) => put_decimal(out, rate),
+        _ => put(out, b"-"),
     }
 }
 
 // The line of a target: two numbers of at most 20 digits, a space and a newline.
-fn put_quote(
-    out: &mut [u8],
-    at: usize,
-    depths: &[u32],
-    rates: &[u64],
-    marks: &[u8],
-    target: u32,
-) -> usize
-    requires { at + 42 ≤ length out.old }
-    ensures wrote { Wrote out.old at (quote_line depths.now rates.now marks.now target) out.new result }
-    ensures upper_bound { result ≤ at + 42 }
+fn put_quote(out: &mut Text, board: &Board, target: u32)
+    requires { array_vec_len out.old + 42 ≤ 4096 }
+    ensures text { out.new.items ≡ out.old.items
+        ++ quote_line board.now.depths board.now.rates board.now.marks target }
+    ensures upper_bound { array_vec_len out.new ≤ array_vec_len out.old + 42 }
 {
-    let rate = fee_at_target_sat_kvb(depths, rates, marks, target);
-    let after_target = put_decimal(out, at, target as u64);
-    let after_space = put(out, after_target, b" ");
-    let after_rate = put_rate(out, after_space, rate);
-    put(out, after_rate, b"\n")
+    let rate = fee_at_target_sat_kvb(&board.depths, &board.rates, &board.marks, target);
+    put_decimal(out, u64::from(target));
+    put(out, b" ");
+    put_rate(out, rate);
+    put(out, b"\n");
 }
 
-fn put_quotes(
-    out: &mut [u8],
-    at: usize,
-    depths: &[u32],
-    rates: &[u64],
-    marks: &[u8],
-    targets: &[u32],
-) -> usize
-    requires { at + 42 * length targets.now ≤ length out.old }
-    ensures { Wrote out.old at (quote_lines depths.now rates.now marks.now targets.now) out.new result }
+// The board after the hold pass.
+fn held(mut board: Board) -> Board
+    ensures { result ≡ held board }
 {
-    let mut end = at;
-    let mut i = 0;
-    while i < targets.len() {
-        end = put_quote(out, end, depths, rates, marks, targets[i]);
-        i += 1;
+    let _ = hold_defined_then_monotone(&mut board.rates, &mut board.marks);
+    board
+}
+
+// The lines of the targets, of which a board has at most 64.
+fn put_quotes(out: &mut Text, board: &Board)
+    requires { array_vec_len out.old + 42 * 64 ≤ 4096 }
+    ensures { out.new.items ≡ out.old.items
+        ++ quote_lines board.now.depths board.now.rates board.now.marks board.now.targets }
+{
+    for target in board.targets.as_slice() {
+        put_quote(out, board, *target);
     }
-    end
 }
 
 // The header and the lines of the targets.
-fn put_board(out: &mut [u8], depths: &[u32], rates: &[u64], marks: &[u8], targets: &[u32]) -> usize
-    requires { 12 + 42 * length targets.now ≤ length out.old }
-    ensures { Wrote out.old 0 (header ++ quote_lines depths.now rates.now marks.now targets.now) out.new result }
+fn quotes(board: Board) -> Text
+    ensures { result.items ≡ quotes board }
 {
-    let at = put(out, 0, b"target rate\n");
-    put_quotes(out, at, depths, rates, marks, targets)
+    let mut out = Text::new();
+    put(&mut out, b"target rate\n");
+    put_quotes(&mut out, &held(board));
+    out
 }
 
-fn put_bad(out: &mut [u8], n: u64) -> usize
-    requires { 30 ≤ length out.old }
-    ensures { Wrote out.old 0 (bad_start ++ decimal n ++ (newline ∷ [])) out.new result }
+fn bad_text(bad: BadLine) -> Text
+    ensures { result.items ≡ bad_text bad.0 }
 {
-    let after_start = put(out, 0, b"bad line ");
-    let after_number = put_decimal(out, after_start, n);
-    put(out, after_number, b"\n")
+    let mut out = Text::new();
+    put(&mut out, b"bad line ");
+    put_decimal(&mut out, bad.0);
+    put(&mut out, b"\n");
+    out
 }
 
-// Holds, then writes the board.
-fn put_held(
-    out: &mut [u8],
-    depths: &[u32],
-    rates: &mut [u64],
-    marks: &mut [u8],
-    targets: &[u32],
-) -> usize
-    requires { 12 + 42 * length targets.now ≤ length out.old }
-    ensures { Wrote out.old 0 (header ++ quote_lines depths.now (held_numbers rates.old marks.old) (held_marks rates.old marks.old) targets.now) out.new result }
+// What a board answers, or the first bad line.
+pub fn text(read: Result<Board, BadLine>) -> Text
+    ensures { result.items ≡ text (seen read) }
 {
-    hold_defined_then_monotone(rates, marks);
-    put_board(out, depths, rates, marks, targets)
-}
-
-fn at_most_64(n: u8) -> usize
-    ensures value { result ≡ min n 64 }
-    ensures upper_bound { result ≤ 64 }
-{
-    if n < 64 { n as usize } else { 64 }
-}
-
-// Writes what the board answers, from the start of out, and returns its length.
-pub fn write(board: Board, out: &mut [u8; 4096]) -> usize
-    ensures wrote { Wrote out.old 0 (text (seen (kept_of board))) out.new result }
-    ensures prefix_len { IsPrefixLen result out.new }
-{
-    let counts = board.counts;
-    let bad = counts.bad;
-    if bad != 0 {
-        return put_bad(out, bad);
+    match read {
+        Ok(board) => quotes(board),
+        Err(bad) => bad_text(bad),
     }
-    let n = at_most_64(counts.depths);
-    let m = at_most_64(counts.targets);
-    let depths = board.depths;
-    let mut rates = board.rates;
-    let mut marks = board.marks;
-    let targets = board.targets;
-    put_held(
-        out,
-        &depths[..n],
-        &mut rates[..n],
-        &mut marks[..n],
-        &targets[..m],
-    )
 }
 
-// Writes what `feequote` answers to a whole input, from the start of out, and returns its length.
-pub fn quote(input: &[u8], out: &mut [u8; 4096]) -> usize
-    ensures wrote { Wrote out.old 0 (feequote input.now) out.new result }
-    ensures prefix_len { IsPrefixLen result out.new }
+// What `feequote` answers to a whole input.
+pub fn quote(input: &[u8]) -> Text
+    ensures { result.items ≡ feequote input.now }
 {
-    write(quote_lines::board::read(input), out)
+    text(read(input))
 }

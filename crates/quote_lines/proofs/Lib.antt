@@ -1,4 +1,5 @@
 -- Laws that the functions' proofs cite, and the format's own laws.
+pub mod Accepts
 pub mod Fields
 pub mod Inputs
 pub mod Keeps

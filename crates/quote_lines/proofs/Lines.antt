@@ -8,12 +8,13 @@ use mathlib.Core.Option.{Option, none, some}
 use lib.Dec.{ltb, eqb, lit≤}
 use borrow.Author.Tests.{lt-ltb, le-ltb, ltb-false, ne_eqb}
 use Rattle.quote_lines.specs.Bytes.{space, dash, letter_d, letter_t, is_digit}
-use Rattle.quote_lines.specs.Format.{onto, fields, all_digits, is_numeral, value, numeral, is, Said, entry, target, ill, rate_line, depth_line, target_line, says_fields, says}
+use Rattle.quote_lines.specs.Format.{onto, fields, all_digits, is_numeral, value, numeral, is, Said, entry, ill, rate_line, depth_line, target_line, says_fields, says}
 use Rattle.quote_lines.specs.Machine.{grown, kind_of, within, rate_of, next}
+use Rattle.quote_lines.specs.Store.{say_of}
 use Rattle.quote_lines.specs.declared.field.Field.{Field}
 use Rattle.quote_lines.specs.declared.field.Field.TheVariants.{Empty, LetterD, LetterT, Dash, Number, Other}
 use Rattle.quote_lines.specs.declared.line.Line.{Line}
-use Rattle.quote_lines.specs.declared.line.Line.TheVariants.{Nothing, AfterD, AfterDepth, AfterT, Entry, Target, Bad}
+use Rattle.quote_lines.specs.declared.line.Line.TheVariants.{Nothing, AfterD, AfterDepth, AfterT, Target, Bad}
 use Rattle.quote_lines.proofs.Fields.{field_of, Sort, none_read, one_D, one_T, one-dash, digits, else, sort}
 
 -- ---- the bytes of a line, and its fields
@@ -59,16 +60,6 @@ ended-fields l f [] = refl
 ended-fields l f (b ∷ bs) = ended_by l f b bs (eqb b space) (ended-fields (next l f) Empty bs) (ended-fields l (grown f b) bs)
 
 -- ---- what a line says, field by field
--- what the machine's line says
-abbrev pub say_of : Line → Said
-say_of (Entry d r m) = entry d r m
-say_of (Target t) = target t
-say_of Nothing = ill
-say_of AfterD = ill
-say_of (AfterDepth d) = ill
-say_of AfterT = ill
-say_of Bad = ill
-
 bad-stays : (fs : List Field) → foldl next Bad fs ≡ Bad
 bad-stays [] = refl
 bad-stays (f ∷ fs) = bad-stays fs

@@ -1,5 +1,5 @@
 -- Fields and lines read a byte at a time: the functions that the code's steps equal. What whole lines say is stated in `Format`. Definitions only.
-use Rattle.std.specs.Prelude.{ℕ, ◌^◌, cond, ltb, eqb}
+use Rattle.std.specs.Prelude.{ℕ, ◌^◌, cond, ltb, eqb, Option, Some, None}
 use Rattle.quote_lines.specs.Bytes.{dash, letter_d, letter_t, is_digit, shifted}
 use Rattle.quote_lines.specs.declared.field.Field.{Field}
 use Rattle.quote_lines.specs.declared.field.Field.TheVariants.{Empty, LetterD, LetterT, Dash, Number, Other}
@@ -7,6 +7,9 @@ use Rattle.quote_lines.specs.declared.line.Line.{Line}
 use Rattle.quote_lines.specs.declared.line.Line.TheVariants.{Nothing, AfterD, AfterDepth, AfterT, Entry, Target, Bad}
 
 -- one byte more of a field: a number stays below 2^64
+abbrev pub with_digit : ℕ → ℕ → Option ℕ
+with_digit n b = cond (is_digit b) (cond (ltb (shifted n b) (2 ^ 64)) (Some (shifted n b)) None) None
+
 abbrev pub number : ℕ → Field
 number n = cond (ltb n (2 ^ 64)) (Number n) Other
 
@@ -34,6 +37,14 @@ kind_of (Number n) = Bad
 kind_of Other = Bad
 
 -- a depth or a target
+abbrev pub small : Field → Option ℕ
+small (Number n) = cond (ltb n (2 ^ 32)) (Some n) None
+small Empty = None
+small LetterD = None
+small LetterT = None
+small Dash = None
+small Other = None
+
 abbrev pub within : (ℕ → Line) → Field → Line
 within g (Number n) = cond (ltb n (2 ^ 32)) (g n) Bad
 within g Empty = Bad
@@ -43,8 +54,8 @@ within g Dash = Bad
 within g Other = Bad
 
 abbrev pub rate_of : ℕ → Field → Line
-rate_of d (Number n) = Entry d n 1
-rate_of d Dash = Entry d 0 0
+rate_of d (Number n) = Entry d (Some n)
+rate_of d Dash = Entry d None
 rate_of d Empty = Bad
 rate_of d LetterD = Bad
 rate_of d LetterT = Bad
@@ -55,6 +66,6 @@ next Nothing f = kind_of f
 next AfterD f = within AfterDepth f
 next (AfterDepth d) f = rate_of d f
 next AfterT f = within Target f
-next (Entry d r m) f = Bad
+next (Entry d r) f = Bad
 next (Target t) f = Bad
 next Bad f = Bad

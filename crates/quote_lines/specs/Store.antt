@@ -1,100 +1,72 @@
 -- What is kept of the lines read, and the reading of a byte: the functions that the code's steps equal. What a whole input says is stated in `Format`. Definitions only.
-use Rattle.std.specs.Prelude.{ℕ, ◌+◌, ◌-◌, Bool, true, false, cond, ◌&&◌, leb, ltb, eqb, get_or, take, set, replicate}
-use mathlib.Core.List.{List, foldl}
+use Rattle.std.specs.Prelude.{ℕ, ◌+◌, Bool, true, false, cond, ◌&&◌, leb, ltb, eqb, ◌==◌, length, Option, Some, None, Result, Ok, Err}
+use mathlib.Core.List.{List, [], foldl}
+use Rattle.std.proofs.Math.Option as maybe
 use Rattle.quote_lines.specs.Bytes.{newline, space}
-use Rattle.quote_lines.specs.Format.{Board, Input, board, bad_line}
+use Rattle.quote_lines.specs.Format.{Said, entry, target, ill, Board, last, accept, Input, board, bad_line}
 use Rattle.quote_lines.specs.Machine.{grown, next}
 use Rattle.quote_lines.specs.declared.field.Field.{Field}
 use Rattle.quote_lines.specs.declared.field.Field.TheVariants.{Empty, LetterD, LetterT, Dash, Number, Other}
 use Rattle.quote_lines.specs.declared.line.Line.{Line}
 use Rattle.quote_lines.specs.declared.line.Line.TheVariants.{Nothing, AfterD, AfterDepth, AfterT, Entry, Target, Bad}
-use Rattle.quote_lines.specs.declared.board.Counts.{Counts}
-use Rattle.quote_lines.specs.declared.board.Reader.{Reader}
-use Rattle.quote_lines.specs.declared.board.Board as declared
+use Rattle.quote_lines.specs.declared.board.BadLine.{BadLine}
+use Rattle.quote_lines.specs.declared.reader.Reader.{Reader}
 
--- the counts with the lent arrays
-pub record Kept : Type 0 where
-  pub counts : Counts
-  pub depths : List ℕ
-  pub rates : List ℕ
-  pub marks : List ℕ
-  pub targets : List ℕ
+-- what the fields of a whole line say
+abbrev pub say_of : Line → Said
+say_of (Entry d (Some r)) = entry d r 1
+say_of (Entry d None) = entry d 0 0
+say_of (Target t) = target t
+say_of Nothing = ill
+say_of AfterD = ill
+say_of (AfterDepth d) = ill
+say_of AfterT = ill
+say_of Bad = ill
 
-abbrev pub kept : Counts → List ℕ → List ℕ → List ℕ → List ℕ → Kept
-kept c ds rs ms ts = record { counts = c; depths = ds; rates = rs; marks = ms; targets = ts }
+abbrev pub empty_board : Board
+empty_board = record { depths = []; rates = []; marks = []; targets = [] }
 
-abbrev pub kept_of : declared.Board → Kept
-kept_of b = kept b.counts b.depths b.rates b.marks b.targets
+-- every line before the next one gave an entry or a target
+abbrev pub next_line : Board → BadLine
+next_line b = record { 0 = length b.depths + length b.targets + 1 }
 
-abbrev pub zeros : List ℕ
-zeros = replicate 64 0
-
--- the depth of the last of n entries, and 0 before the first
-unfoldable pub last_depth : ℕ → List ℕ → ℕ
-last_depth n ds = cond (eqb n 0) 0 (get_or ds (n - 1) 0)
-
--- the line after the last good one is bad
-unfoldable pub mark_bad : Counts → Counts
-mark_bad c = record { depths = c.depths; targets = c.targets; bad = c.depths + c.targets + 1 }
-
-abbrev pub as_bad : Kept → Kept
-as_bad k = kept (mark_bad k.counts) k.depths k.rates k.marks k.targets
-
--- a depth: before the first target, within the limit of 64, and not lower than the one before
-unfoldable pub entry_fits : Counts → List ℕ → ℕ → Bool
-entry_fits c ds d = eqb c.targets 0 && (ltb c.depths 64 && leb (last_depth c.depths ds) d)
-
-unfoldable pub keep_entry : Kept → ℕ → ℕ → ℕ → Kept
-keep_entry k d r m =
-    let c = k.counts in
-    let n = c.depths in
-    cond (entry_fits c k.depths d)
-    (kept (record { depths = n + 1; targets = c.targets; bad = c.bad }) (set k.depths n d) (set k.rates n r) (set k.marks n m) k.targets)
-    (as_bad k)
-
-unfoldable pub keep_target : Kept → ℕ → Kept
-keep_target k t =
-    let c = k.counts in
-    let n = c.targets in
-    cond (ltb n 64) (kept (record { depths = c.depths; targets = n + 1; bad = c.bad }) k.depths k.rates k.marks (set k.targets n t))
-    (as_bad k)
-
-abbrev pub keep_good : Kept → Line → Kept
-keep_good k (Entry d r m) = keep_entry k d r m
-keep_good k (Target t) = keep_target k t
-keep_good k Nothing = as_bad k
-keep_good k AfterD = as_bad k
-keep_good k (AfterDepth d) = as_bad k
-keep_good k AfterT = as_bad k
-keep_good k Bad = as_bad k
-
--- a whole line more; after a bad one nothing is kept
-unfoldable pub keep_line : Kept → Line → Kept
-keep_line k l = cond (eqb k.counts.bad 0) (keep_good k l) k
-
--- between two bytes: what the line says so far, what its last field says so far, and what is kept
-pub record State : Type 0 where
-  pub line : Line
-  pub field : Field
-  pub keeps : Kept
-
-abbrev pub state : Line → Field → Kept → State
-state l f k = record { line = l; field = f; keeps = k }
-
-abbrev pub state_of : Reader → List ℕ → List ℕ → List ℕ → List ℕ → State
-state_of r ds rs ms ts = state r.line r.field (kept r.counts ds rs ms ts)
+-- between two lines
+abbrev pub between : Board → Option BadLine → Reader
+between b o = record { line = Nothing; field = Empty; board = b; bad = o }
 
 abbrev pub new_reader : Reader
-new_reader = record { line = Nothing; field = Empty; counts = record { depths = 0; targets = 0; bad = 0 } }
+new_reader = between empty_board None
+
+-- a depth: before the first target, within the limit of 64, and not lower than the one before
+abbrev pub entry_fits : Board → ℕ → Bool
+entry_fits b d = eqb (length b.targets) 0 && (ltb (length b.depths) 64 && leb (last b.depths) d)
+
+-- the board after a line, and the number of a bad one, which changes nothing
+abbrev pub board_after : Board → maybe.Option Board → Board
+board_after b (maybe.some more) = more
+board_after b maybe.none = b
+
+abbrev pub bad_of : Board → maybe.Option Board → Option BadLine
+bad_of b (maybe.some more) = None
+bad_of b maybe.none = Some (next_line b)
+
+-- a whole line more; after a bad one nothing is kept
+abbrev pub keep_line : Board → Option BadLine → Said → Reader
+keep_line b None s = between (board_after b (accept b s)) (bad_of b (accept b s))
+keep_line b (Some n) s = between b (Some n)
+
+-- the end of a line
+unfoldable pub line_ended : Reader → Reader
+line_ended r = keep_line r.board r.bad (say_of (next r.line r.field))
 
 -- one byte more
-unfoldable pub byte_read : State → ℕ → State
-byte_read s b =
-    cond (eqb b newline) (state Nothing Empty (keep_line s.keeps (next s.line s.field)))
-    (cond (eqb b space) (state (next s.line s.field) Empty s.keeps) (state s.line (grown s.field b) s.keeps))
+unfoldable pub byte_read : Reader → ℕ → Reader
+byte_read r b =
+    cond (b == newline) (line_ended r)
+    (cond (b == space) (record { line = next r.line r.field; field = Empty; board = r.board; bad = r.bad }) (record { line = r.line; field = grown r.field b; board = r.board; bad = r.bad }))
 
-unfoldable pub fed : State → List ℕ → State
-fed s bs = foldl byte_read s bs
+unfoldable pub fed : Reader → List ℕ → Reader
+fed r bs = foldl byte_read r bs
 
 -- no byte of the line has been read
 abbrev pub at_field_start : Field → Bool
@@ -110,19 +82,21 @@ at_line_start Nothing f = at_field_start f
 at_line_start AfterD f = false
 at_line_start (AfterDepth d) f = false
 at_line_start AfterT f = false
-at_line_start (Entry d r m) f = false
+at_line_start (Entry d r) f = false
 at_line_start (Target t) f = false
 at_line_start Bad f = false
 
+abbrev pub kept_of : Board → Option BadLine → Result Board BadLine
+kept_of b None = Ok b
+kept_of b (Some n) = Err n
+
 -- the end of the input: a line that has begun ends without its newline
-unfoldable pub finished : State → Kept
-finished s = cond (at_line_start s.line s.field) s.keeps (keep_line s.keeps (next s.line s.field))
+unfoldable pub finished : Reader → Result Board BadLine
+finished r =
+    let s = cond (at_line_start r.line r.field) r (line_ended r) in
+    kept_of s.board s.bad
 
--- what the counts and the lent arrays say
-unfoldable pub board_of : Kept → Board
-board_of k =
-    let n = k.counts.depths in
-    record { depths = take n k.depths; rates = take n k.rates; marks = take n k.marks; targets = take k.counts.targets k.targets }
-
-unfoldable pub seen : Kept → Input
-seen k = cond (eqb k.counts.bad 0) (board (board_of k)) (bad_line k.counts.bad)
+-- what the board or the bad line says
+abbrev pub seen : Result Board BadLine → Input
+seen (Ok b) = board b
+seen (Err n) = bad_line n.0

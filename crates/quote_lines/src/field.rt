@@ -1,9 +1,9 @@
 // A field of a line, a byte at a time.
 ghost use Rattle.std.specs.Prelude.{◌≡◌};
-ghost use Rattle.quote_lines.specs.Machine.{first_byte, digits_on, grown as Machine·grown};
+ghost use Rattle.quote_lines.specs.Machine.{with_digit, digits_on, first_byte, grown as Machine·grown};
 
 // What the bytes of a field say so far.
-#[derive(Clone, Copy)]
+#[derive(Clone, Copy, Debug, PartialEq, Eq)]
 pub enum Field {
     Empty,
     LetterD,
@@ -13,52 +13,46 @@ pub enum Field {
     Other,
 }
 
+// The number that a decimal digit behind n makes: none where the byte is no digit or the number does not fit.
+fn with_digit(n: u64, b: u8) -> Option<u64>
+    ensures { result ≡ with_digit n b }
+{
+    if !b.is_ascii_digit() {
+        return None;
+    }
+    n.checked_mul(10)?.checked_add(u64::from(b - b'0'))
+}
+
 // Digits that say n, and one byte more.
 fn digits_on(n: u64, b: u8) -> Field
     ensures { result ≡ digits_on n b }
 {
-    if b < 48 {
-        return Field::Other;
+    match with_digit(n, b) {
+        Some(more) => Field::Number(more),
+        None => Field::Other,
     }
-    if b > 57 {
-        return Field::Other;
-    }
-    if n > 1844674407370955161 {
-        return Field::Other;
-    }
-    let d = (b - 48) as u64;
-    let tens = n * 10;
-    if tens > u64::MAX - d {
-        return Field::Other;
-    }
-    Field::Number(tens + d)
 }
 
 fn first_byte(b: u8) -> Field
     ensures { result ≡ first_byte b }
 {
-    if b == b'D' {
-        return Field::LetterD;
+    match b {
+        b'D' => Field::LetterD,
+        b'T' => Field::LetterT,
+        b'-' => Field::Dash,
+        _ => digits_on(0, b),
     }
-    if b == b'T' {
-        return Field::LetterT;
-    }
-    if b == b'-' {
-        return Field::Dash;
-    }
-    digits_on(0, b)
 }
 
-// One byte more. A space and a newline count as any other byte: a caller ends the field there.
-pub(crate) fn grown(f: Field, b: u8) -> Field
-    ensures { result ≡ Machine·grown f b }
-{
-    match f {
-        Field::Empty => first_byte(b),
-        Field::Number(n) => digits_on(n, b),
-        Field::LetterD => Field::Other,
-        Field::LetterT => Field::Other,
-        Field::Dash => Field::Other,
-        Field::Other => Field::Other,
+impl Field {
+    // One byte more. A space and a newline count as any other byte: a caller ends the field there.
+    pub(crate) fn grown(self, b: u8) -> Field
+        ensures { result ≡ Machine·grown self b }
+    {
+        match self {
+            Field::Empty => first_byte(b),
+            Field::Number(n) => digits_on(n, b),
+            _ => Field::Other,
+        }
     }
 }

@@ -1,8 +1,9 @@
 // The line format of `feequote` (document 01, case M), read a byte at a time: a line may be of any
 // length, and only what it says so far is kept. `field` reads the bytes of a field, `line` the
-// fields of a line, `board` keeps the entries and targets of the lines read.
+// fields of a line, `board` keeps the entries and targets, `reader` reads an input.
 #![tactic(auto)]
 
 pub mod board;
 pub mod field;
 pub mod line;
+pub mod reader;

@@ -1,21 +1,17 @@
 // A line, a field at a time.
-ghost use Rattle.std.specs.Prelude.{◌≡◌};
-ghost use Rattle.quote_lines.specs.Machine.{kind_of, within, rate_of, next as Machine·next};
+ghost use Rattle.std.specs.Prelude.{◌≡◌, option_and_then};
+ghost use Rattle.quote_lines.specs.Machine.{kind_of, small, within, rate_of, next as Machine·next};
 
 use crate::field::Field;
 
-// The first number that a depth or a target is not.
-const PAST_U32: u64 = 4294967296;
-
-// What the fields of a line say so far. `Entry` is a depth, its rate and the rate's mark, 1 there
-// and 0 missing.
-#[derive(Clone, Copy)]
+// What the fields of a line say so far. `Entry` is a depth and its rate, where it has one.
+#[derive(Clone, Copy, Debug, PartialEq, Eq)]
 pub enum Line {
     Nothing,
     AfterD,
     AfterDepth(u32),
     AfterT,
-    Entry(u32, u64, u8),
+    Entry(u32, Option<u64>),
     Target(u32),
     Bad,
 }
@@ -26,75 +22,41 @@ fn kind_of(f: Field) -> Line
     match f {
         Field::LetterD => Line::AfterD,
         Field::LetterT => Line::AfterT,
-        Field::Empty => Line::Bad,
-        Field::Dash => Line::Bad,
-        Field::Number(_) => Line::Bad,
-        Field::Other => Line::Bad,
+        _ => Line::Bad,
     }
 }
 
-fn depth_of(f: Field) -> Line
-    ensures { result ≡ within Line.AfterDepth f }
+// A depth or a target: a number within u32.
+fn small(f: Field) -> Option<u32>
+    ensures { result ≡ small f }
 {
-    match f {
-        Field::Number(n) => {
-            if n < PAST_U32 {
-                Line::AfterDepth(n as u32)
-            } else {
-                Line::Bad
-            }
-        }
-        Field::Empty => Line::Bad,
-        Field::LetterD => Line::Bad,
-        Field::LetterT => Line::Bad,
-        Field::Dash => Line::Bad,
-        Field::Other => Line::Bad,
-    }
+    let Field::Number(n) = f else {
+        return None;
+    };
+    u32::try_from(n).ok()
 }
 
 fn rate_of(depth: u32, f: Field) -> Line
     ensures { result ≡ rate_of depth f }
 {
     match f {
-        Field::Number(n) => Line::Entry(depth, n, 1),
-        Field::Dash => Line::Entry(depth, 0, 0),
-        Field::Empty => Line::Bad,
-        Field::LetterD => Line::Bad,
-        Field::LetterT => Line::Bad,
-        Field::Other => Line::Bad,
+        Field::Number(n) => Line::Entry(depth, Some(n)),
+        Field::Dash => Line::Entry(depth, None),
+        _ => Line::Bad,
     }
 }
 
-fn target_of(f: Field) -> Line
-    ensures { result ≡ within Line.Target f }
-{
-    match f {
-        Field::Number(n) => {
-            if n < PAST_U32 {
-                Line::Target(n as u32)
-            } else {
-                Line::Bad
-            }
+impl Line {
+    // One field more.
+    pub(crate) fn next(self, f: Field) -> Line
+        ensures { result ≡ Machine·next self f }
+    {
+        match self {
+            Line::Nothing => kind_of(f),
+            Line::AfterD => small(f).map_or(Line::Bad, Line::AfterDepth),
+            Line::AfterDepth(depth) => rate_of(depth, f),
+            Line::AfterT => small(f).map_or(Line::Bad, Line::Target),
+            Line::Entry(..) | Line::Target(_) | Line::Bad => Line::Bad,
         }
-        Field::Empty => Line::Bad,
-        Field::LetterD => Line::Bad,
-        Field::LetterT => Line::Bad,
-        Field::Dash => Line::Bad,
-        Field::Other => Line::Bad,
-    }
-}
-
-// One field more.
-pub(crate) fn next(l: Line, f: Field) -> Line
-    ensures { result ≡ Machine·next l f }
-{
-    match l {
-        Line::Nothing => kind_of(f),
-        Line::AfterD => depth_of(f),
-        Line::AfterDepth(d) => rate_of(d, f),
-        Line::AfterT => target_of(f),
-        Line::Entry(_, _, _) => Line::Bad,
-        Line::Target(_) => Line::Bad,
-        Line::Bad => Line::Bad,
     }
 }
