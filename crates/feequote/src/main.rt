@@ -30,6 +30,7 @@ impl fmt::Display for Failure {
 }
 
 // One read: how many bytes it gave, 0 at the end of the input.
+#[tactic(auto, using(crate::proofs::Feeds::fed_kept))]
 fn read_some<I: Read>(input: &mut I, reader: &mut Reader) -> Result<usize, Failure>
     ensures fed { Fed (I.remaining input.old) (I.remaining input.new) reader.old reader.new }
     ensures end { result ≡ Ok 0 → IsAtEnd (I.remaining input.new) }
@@ -44,6 +45,7 @@ fn read_some<I: Read>(input: &mut I, reader: &mut Reader) -> Result<usize, Failu
 
 // A proved loop has to end, and nothing says that the input does. So the loop counts its turns, to a
 // number that no run comes to.
+#[tactic(auto, using(crate::proofs::Feeds::fed_still, crate::proofs::Feeds::fed_on))]
 fn read_all<I: Read>(input: &mut I, reader: &mut Reader) -> Result<(), Failure>
     ensures fed { Fed (I.remaining input.old) (I.remaining input.new) reader.old reader.new }
     ensures end { OnOk result (IsAtEnd (I.remaining input.new)) }
@@ -57,6 +59,7 @@ fn read_all<I: Read>(input: &mut I, reader: &mut Reader) -> Result<(), Failure>
 }
 
 // Reads the input: what `feequote` answers to it.
+#[tactic(auto, using(crate::proofs::Feeds::quoted))]
 fn quote<I: Read>(input: &mut I) -> Result<Text, Failure>
     ensures { IfOk result (λ t. TextOf (I.remaining input.old) t.items) }
 {

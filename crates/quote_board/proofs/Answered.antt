@@ -2,9 +2,9 @@
 use Prim.Native.Nat.{ℕ, min}
 use mathlib.Core.Path.{◌≡◌, ap, sym, subst, ◌∙◌}
 use native.Mathlib.Omega.{arith}
-use mathlib.Core.Bool.{Bool, true, false, cond, ◌||◌, not}
+use mathlib.Core.Bool.{Bool, true, cond, ◌||◌, not}
 use mathlib.Core.List.{List}
-use mathlib.Core.Option.{Option, none, some}
+use mathlib.Core.Option.{Option, none}
 use lib.Dec.{leb, eqb}
 use lib.ListN.{length, get_or}
 use borrow.Author.Tests.{eq-eqb, le-leb}
@@ -23,9 +23,7 @@ use Rattle.quote_lines.specs.Format.{Board, board, parse}
 use Rattle.quote_lines.proofs.Sound.{Sound, SoundInput, parse-sound}
 
 not-refused : (t : Bool) (o : Option ℕ) (k : ℕ) → cond t nothing (as_answer o) ≡ refusal k → ⊥
-not-refused true o k e = let z : ◌≡◌ {A = ℕ} 0 1 = cc in omega arith
-not-refused false (some r) k e = let z : ◌≡◌ {A = ℕ} 0 1 = cc in omega arith
-not-refused false none k e = let z : ◌≡◌ {A = ℕ} 0 1 = cc in omega arith
+not-refused t o k e = grind arith
 
 module _ (b : Board) (s : Sound b) where
   marks_valid_lem : marks_valid b.marks ≡ true

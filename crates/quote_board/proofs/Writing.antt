@@ -13,9 +13,9 @@ use borrow.Author.Tests.{lt-ltb, le-ltb}
 use Rattle.io.specs.Digits.{last_digits, IsDigitCount}
 use Rattle.slices.specs.Search.{seek}
 use Rattle.slices.proofs.Search.{seek_is, sought}
-use Rattle.rbitcoin_mempool.specs.Answer.{Answer, rate, none, refusal, answer}
+use Rattle.rbitcoin_mempool.specs.Answer.{answer}
 use Rattle.rbitcoin_mempool.specs.declared.answer.RateAnswer.{RateAnswer}
-use Rattle.rbitcoin_mempool.specs.declared.answer.RateAnswer.TheVariants.{Found, Nothing, Refused}
+use Rattle.rbitcoin_mempool.specs.declared.answer.RateAnswer.TheVariants.{Found}
 use Rattle.quote_lines.specs.Bytes.{dash}
 use Rattle.quote_board.specs.Text.{width, decimal, rate_text, quote_lines, quote_line}
 
@@ -40,9 +40,9 @@ width_is n k h f =
     (λ j a b. le-ltb n (10 ^ j) (le_trans (pow-le-pow_right {n = 10} (lit< tt) {i = j} {j = k - 1} (omega arith)) (f.2 (omega arith))))
     (λ l. lt-ltb n (10 ^ k) f.1)
 
-pub decimal-is : (n k : ℕ) → n < 2 ^ 64 → IsDigitCount 10 1 n k → last_digits 10 k n ≡ decimal n
+pub decimal_is : (n k : ℕ) → n < 2 ^ 64 → IsDigitCount 10 1 n k → last_digits 10 k n ≡ decimal n
 unfolding decimal
-decimal-is n k h f = ap (λ (j : ℕ). last_digits 10 j n) (width_is n k h f)
+decimal_is n k h f = ap (λ (j : ℕ). last_digits 10 j n) (width_is n k h f)
 
 pub decimal_short : (n : ℕ) → length (decimal n) ≤ 20
 unfolding decimal width
@@ -51,19 +51,11 @@ decimal_short n = rw (digits-length 10 (seek (λ k. ltb n (10 ^ k)) 1 19) n) (so
 -- what is no rate is written as `-`
 pub no_rate : (a : RateAnswer) → ((r : ℕ) → a ≡ Found r → ⊥) → rate_text (answer a) ≡ dash ∷ []
 unfolding rate_text
-no_rate (Found r) h = absurd (h r refl)
-no_rate Nothing h = refl
-no_rate (Refused k) h = refl
+no_rate a h = grind arith
 
 pub rate_is : (a : RateAnswer) (r : ℕ) → a ≡ Found r → rate_text (answer a) ≡ decimal r
 unfolding rate_text
 rate_is a r e = rw e
-
-pub rate_short : (a : Answer) → length (rate_text a) ≤ 20
-unfolding rate_text
-rate_short (rate r) = decimal_short r
-rate_short none = lit≤ tt
-rate_short (refusal k) = lit≤ tt
 
 -- ---- the lines of targets, one more
 module _ (ds rs ms : List ℕ) where
@@ -76,9 +68,9 @@ module _ (ds rs ms : List ℕ) where
   unfolding quote_lines
   quotes-one t = append-nil (quote_line ds rs ms t)
 
-  pub quotes-none : quote_lines ds rs ms [] ≡ []
+  pub quotes_none : quote_lines ds rs ms [] ≡ []
   unfolding quote_lines
-  quotes-none = refl
+  quotes_none = refl
 
   pub quotes_more : (ts : List ℕ) (i : ℕ) → i < length ts → quote_lines ds rs ms (take i ts) ++ quote_line ds rs ms (get_or ts i 0) ≡ quote_lines ds rs ms (take (i + 1) ts)
   quotes_more ts i h =

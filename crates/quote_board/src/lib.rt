@@ -25,6 +25,7 @@ fn put(out: &mut Text, t: &[u8])
     let _fits = out.try_extend_from_slice(t);
 }
 
+#[tactic(auto, using(crate::proofs::Writing::decimal_is, crate::proofs::Writing::decimal_short))]
 fn put_decimal(out: &mut Text, n: u64)
     requires { array_vec_len out.old + 20 ≤ 4096 }
     ensures text { out.new.items ≡ out.old.items ++ decimal n }
@@ -35,6 +36,7 @@ fn put_decimal(out: &mut Text, n: u64)
     put(out, &digits[..count]);
 }
 
+#[tactic(auto, using(crate::proofs::Writing::rate_is, crate::proofs::Writing::no_rate))]
 fn put_rate(out: &mut Text, rate: RateAnswer)
     requires { array_vec_len out.old + 20 ≤ 4096 }
     ensures text { out.new.items ≡ out.old.items ++ rate_text (answer rate) }
@@ -47,6 +49,7 @@ fn put_rate(out: &mut Text, rate: RateAnswer)
 }
 
 // The line of a target: two numbers of at most 20 digits, a space and a newline.
+#[tactic(auto, unfolding(crate::specs::Text::quote_line))]
 fn put_quote(out: &mut Text, board: &Board, target: u32)
     requires { array_vec_len out.old + 42 ≤ 4096 }
     ensures text { out.new.items ≡ out.old.items
@@ -100,6 +103,7 @@ fn bad_text(bad: BadLine) -> Text
 }
 
 // What a board answers, or the first bad line.
+#[tactic(auto, unfolding(crate::specs::Text::text))]
 pub fn text(read: Result<Board, BadLine>) -> Text
     ensures { result.items ≡ text (seen read) }
 {
@@ -110,6 +114,7 @@ pub fn text(read: Result<Board, BadLine>) -> Text
 }
 
 // What `feequote` answers to a whole input.
+#[tactic(auto, unfolding(crate::specs::Text::feequote))]
 pub fn quote(input: &[u8]) -> Text
     ensures { result.items ≡ feequote input.now }
 {

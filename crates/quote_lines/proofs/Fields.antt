@@ -3,13 +3,15 @@ use Prim.Native.Nat.{ℕ, ◌^◌, ◌≤◌, ◌<◌}
 use native.Mathlib.Nat.{le_refl, le_trans}
 use native.Mathlib.Omega.{arith}
 use mathlib.Core.Path.{◌≡◌, refl, ap, sym, subst, ◌∙◌}
-use mathlib.Core.Bool.{Bool, true, false, cond, ◌&&◌, false≢true}
+use mathlib.Core.Bool.{Bool, true, false, cond, ◌&&◌}
 use mathlib.Core.List.{List, [], ◌∷◌, foldl}
 use lib.Dec.{ltb, eqb, lit<}
-use borrow.Author.Tests.{lt-ltb, le-ltb, ltb-true, ltb-false, eqb-true}
+use Rattle.std.proofs.lemmas.Bool.{and_parts}
+use Rattle.std.proofs.lemmas.Bool.Decides.{nat_tests}
+use borrow.Author.Tests.{lt-ltb, ltb-true, eqb-true}
 use Rattle.quote_lines.specs.Bytes.{dash, letter_d, letter_t, is_digit, shifted}
 use Rattle.quote_lines.specs.Format.{all_digits, is_numeral, value, is}
-use Rattle.quote_lines.specs.Machine.{number, digits_on, first_byte, grown}
+use Rattle.quote_lines.specs.Machine.{digits_on, first_byte, grown}
 use Rattle.quote_lines.specs.declared.field.Field.{Field}
 use Rattle.quote_lines.specs.declared.field.Field.TheVariants.{Empty, LetterD, LetterT, Dash, Number, Other}
 
@@ -28,36 +30,16 @@ value_grows n (x ∷ q) = le_trans (omega arith) (value_grows (shifted n x) q)
 as_number : ℕ → List ℕ → Field
 as_number n q = cond (all_digits q && ltb (foldl shifted n q) (2 ^ 64)) (Number (foldl shifted n q)) Other
 
-and-false : (t : Bool) → (t && false) ≡ false
-and-false true = refl
-and-false false = refl
-
-pub and_left : (t u : Bool) → (t && u) ≡ true → t ≡ true
-and_left true u e = refl
-and_left false u e = e
-
-pub and_right : (t u : Bool) → (t && u) ≡ true → u ≡ true
-and_right true u e = e
-and_right false u e = absurd (false≢true e)
-
-too_large : (m : ℕ) (q : List ℕ) → 2 ^ 64 ≤ m → Other ≡ as_number m q
-unfolding as_number
-too_large m q h = rw (le-ltb (foldl shifted m q) (2 ^ 64) (le_trans h (value_grows m q)), and-false (all_digits q))
-
-by_size : (m : ℕ) (q : List ℕ) (t : Bool) → ltb m (2 ^ 64) ≡ t → (m < 2 ^ 64 → foldl grown (Number m) q ≡ as_number m q) → foldl grown (cond t (Number m) Other) q ≡ as_number m q
-by_size m q true e ih = ih (ltb-true m (2 ^ 64) e)
-by_size m q false e ih = other-stays q ∙ too_large m q (ltb-false m (2 ^ 64) e)
-
-by_digit : (m : ℕ) (q : List ℕ) (t : Bool) → foldl grown (number m) q ≡ as_number m q
-    → foldl grown (cond t (number m) Other) q ≡ cond ((t && all_digits q) && ltb (foldl shifted m q) (2 ^ 64)) (Number (foldl shifted m q)) Other
-unfolding as_number
-by_digit m q true ih = ih
-by_digit m q false ih = other-stays q
+-- one byte more of a number, where what follows is known of a number that fits
+one_digit : (n x : ℕ) (q : List ℕ) → (shifted n x < 2 ^ 64 → foldl grown (Number (shifted n x)) q ≡ as_number (shifted n x) q)
+    → foldl grown (digits_on n x) q ≡ as_number n (x ∷ q)
+unfolding as_number all_digits
+one_digit n x q ih = grind (arith, nat_tests, other-stays q, value_grows (shifted n x) q)
 
 digits-behind : (n : ℕ) (q : List ℕ) → n < 2 ^ 64 → foldl grown (Number n) q ≡ as_number n q
 unfolding as_number all_digits
 digits-behind n [] h = rw (lt-ltb n (2 ^ 64) h)
-digits-behind n (x ∷ q) h = by_digit (shifted n x) q (is_digit x) (by_size (shifted n x) q (ltb (shifted n x) (2 ^ 64)) refl (digits-behind (shifted n x) q))
+digits-behind n (x ∷ q) h = unfold as_number in one_digit n x q (digits-behind (shifted n x) q)
 
 -- what a field is, and what its bytes bring the machine to
 pub data Sort (q : List ℕ) : Type 0 where
@@ -97,7 +79,7 @@ sort-number : (x : ℕ) (q : List ℕ) (t : Bool) → (is_numeral (x ∷ q) && l
     → eqb x letter_d ≡ false → eqb x letter_t ≡ false → eqb x dash ≡ false
     → field_of (x ∷ q) ≡ cond t (Number (value (x ∷ q))) Other
     → Sort (x ∷ q)
-sort-number x q true e nd nt nm f = digits (and_left _ _ e) (ltb-true _ _ (and_right (is_numeral (x ∷ q)) _ e)) f
+sort-number x q true e nd nt nm f = let (numeral, small) = and_parts (is_numeral (x ∷ q)) _ e in digits numeral (ltb-true _ _ small) f
 sort-number x q false e nd nt nm f = else (not-one letter_d x q nd) (not-one letter_t x q nt) (not-one dash x q nm) e f
 
 first-other : (x : ℕ) → eqb x letter_d ≡ false → eqb x letter_t ≡ false → eqb x dash ≡ false → first_byte x ≡ digits_on 0 x

@@ -1,25 +1,24 @@
 -- The machine reads an input as the format does. Assumes nothing.
-use Prim.Native.Nat.{ℕ, suc, ◌+◌, ◌^◌}
+use Prim.Native.Nat.{ℕ, suc, ◌+◌}
 use native.Mathlib.Omega.{arith}
-use mathlib.Core.Path.{◌≡◌, refl, ap, sym, ◌∙◌}
+use mathlib.Core.Path.{◌≡◌, refl, ap, ◌∙◌}
 use mathlib.Core.Bool.{Bool, true, false, cond}
 use mathlib.Core.List.{List, [], ◌∷◌, foldl}
 use mathlib.Core.Option.{none, some}
 use mathlib.Core.Option as maybe
-use lib.Dec.{ltb, eqb}
+use lib.Dec.{eqb}
 use lib.ListN.{length, length-append}
 use Rattle.std.specs.Prelude.{Option, Some, None}
-use Rattle.quote_lines.specs.Bytes.{newline, space, dash, letter_d, letter_t, is_digit, shifted}
-use Rattle.quote_lines.specs.Format.{onto, lines, Said, entry, target, ill, says, Board, accept, Input, bad_line, or_bad_line, read_lines, parse}
-use Rattle.quote_lines.specs.Machine.{digits_on, grown, kind_of, within, rate_of, next}
-use Rattle.quote_lines.specs.Store.{say_of, empty_board, next_line, entry_fits, between, new_reader, board_after, bad_of, keep_line, line_ended, at_line_start, byte_read, fed, kept_of, finished, seen}
+use Rattle.quote_lines.specs.Bytes.{newline, space}
+use Rattle.quote_lines.specs.Format.{onto, lines, Said, says, Board, accept, Input, bad_line, or_bad_line, read_lines, parse}
+use Rattle.quote_lines.specs.Machine.{grown, next}
+use Rattle.quote_lines.specs.Store.{say_of, empty_board, next_line, between, new_reader, board_after, bad_of, keep_line, line_ended, at_line_start, byte_read, fed, kept_of, finished, seen}
 use Rattle.quote_lines.specs.declared.field.Field.{Field}
-use Rattle.quote_lines.specs.declared.field.Field.TheVariants.{Empty, LetterD, LetterT, Dash, Number, Other}
+use Rattle.quote_lines.specs.declared.field.Field.TheVariants.{Empty}
 use Rattle.quote_lines.specs.declared.line.Line.{Line}
-use Rattle.quote_lines.specs.declared.line.Line.TheVariants.{Nothing, AfterD, AfterDepth, AfterT, Entry, Target, Bad}
+use Rattle.quote_lines.specs.declared.line.Line.TheVariants.{Nothing}
 use Rattle.quote_lines.specs.declared.board.BadLine.{BadLine}
 use Rattle.quote_lines.specs.declared.reader.Reader.{Reader}
-use Rattle.quote_lines.proofs.Accepts.{with_entry, with_target}
 use Rattle.quote_lines.proofs.Lines.{ended, line-says}
 
 -- ---- the bytes of an input, and its lines
@@ -42,77 +41,12 @@ unfolding rest keep_lines finished
 rest-fresh b o [] = refl
 rest-fresh b o (p ∷ ps) = refl
 
--- a line that a byte was read of has begun
-number_begun : (t : Bool) (n : ℕ) → at_line_start Nothing (cond t (Number n) Other) ≡ false
-number_begun true n = refl
-number_begun false n = refl
-
-digits_begun-by : (t u : Bool) (n : ℕ) → at_line_start Nothing (cond t (cond u (Number n) Other) Other) ≡ false
-digits_begun-by true u n = number_begun u n
-digits_begun-by false u n = refl
-
-digits_begun : (n b : ℕ) → at_line_start Nothing (digits_on n b) ≡ false
-digits_begun n b = digits_begun-by (is_digit b) (ltb (shifted n b) (2 ^ 64)) (shifted n b)
-
-first_begun : (d t m : Bool) (f : Field) → at_line_start Nothing f ≡ false → at_line_start Nothing (cond d LetterD (cond t LetterT (cond m Dash f))) ≡ false
-first_begun true t m f h = refl
-first_begun false true m f h = refl
-first_begun false false true f h = refl
-first_begun false false false f h = h
-
-field_begun : (f : Field) (b : ℕ) → at_line_start Nothing (grown f b) ≡ false
-field_begun Empty b = first_begun (eqb b letter_d) (eqb b letter_t) (eqb b dash) (digits_on 0 b) (digits_begun 0 b)
-field_begun (Number n) b = digits_begun n b
-field_begun LetterD b = refl
-field_begun LetterT b = refl
-field_begun Dash b = refl
-field_begun Other b = refl
-
+-- a line that a byte or a field was read of has begun
 byte_begun : (l : Line) (f : Field) (b : ℕ) → at_line_start l (grown f b) ≡ false
-byte_begun Nothing f b = field_begun f b
-byte_begun AfterD f b = refl
-byte_begun (AfterDepth d) f b = refl
-byte_begun AfterT f b = refl
-byte_begun (Entry d r) f b = refl
-byte_begun (Target t) f b = refl
-byte_begun Bad f b = refl
-
-kind_begun : (f : Field) → at_line_start (kind_of f) Empty ≡ false
-kind_begun Empty = refl
-kind_begun LetterD = refl
-kind_begun LetterT = refl
-kind_begun Dash = refl
-kind_begun (Number n) = refl
-kind_begun Other = refl
-
-cond_begun : (t : Bool) (l m : Line) → at_line_start l Empty ≡ false → at_line_start m Empty ≡ false → at_line_start (cond t l m) Empty ≡ false
-cond_begun true l m h i = h
-cond_begun false l m h i = i
-
-within_begun : (g : ℕ → Line) (f : Field) → ((n : ℕ) → at_line_start (g n) Empty ≡ false) → at_line_start (within g f) Empty ≡ false
-within_begun g (Number n) h = cond_begun (ltb n (2 ^ 32)) (g n) Bad (h n) refl
-within_begun g Empty h = refl
-within_begun g LetterD h = refl
-within_begun g LetterT h = refl
-within_begun g Dash h = refl
-within_begun g Other h = refl
-
-rate_begun : (d : ℕ) (f : Field) → at_line_start (rate_of d f) Empty ≡ false
-rate_begun d Empty = refl
-rate_begun d LetterD = refl
-rate_begun d LetterT = refl
-rate_begun d Dash = refl
-rate_begun d (Number n) = refl
-rate_begun d Other = refl
+byte_begun l f b = grind arith
 
 space_begun : (l : Line) (f : Field) → at_line_start (next l f) Empty ≡ false
-space_begun Nothing f = kind_begun f
-space_begun AfterD f = within_begun AfterDepth f (λ n. refl)
-space_begun (AfterDepth d) f = rate_begun d f
-space_begun AfterT f = within_begun Target f (λ n. refl)
-space_begun (Entry d r) f = refl
-space_begun (Target t) f = refl
-space_begun Bad f = refl
+space_begun l f = grind arith
 
 onto-space : (l : Line) (f : Field) (b : Board) (o : Option BadLine) (x : ℕ) (ps : List (List ℕ)) → eqb x space ≡ true
     → rest (next l f) Empty b o ps ≡ rest l f b o (onto x ps)
@@ -159,18 +93,10 @@ bad-seen b n (p ∷ ps) = bad-seen b n ps
 line_number : Board → ℕ
 line_number b = length b.depths + length b.targets + 1
 
-if_some : (t : Bool) (x more : Board) → cond t (some x) none ≡ some more → x ≡ more
-if_some true x more e = cc
-if_some false x more e = cc
-
 -- a line that is taken is counted
 counted : (b more : Board) (s : Said) → accept b s ≡ some more → line_number more ≡ suc (line_number b)
 unfolding accept line_number
-counted b more (entry d r m) e =
-    ap line_number (sym (if_some (entry_fits b d) (with_entry b d r m) more e)) ∙ omega (arith, length-append b.depths (d ∷ []))
-counted b more (target t) e =
-    ap line_number (sym (if_some (ltb (length b.targets) 64) (with_target b t) more e)) ∙ omega (arith, length-append b.targets (t ∷ []))
-counted b more ill e = cc
+counted b more s e = grind (arith, length-append {A = ℕ})
 
 -- the lines that follow
 module _ (ps : List (List ℕ)) (ih : (b : Board) → keep_lines b None ps ≡ read_lines (line_number b) b ps) where

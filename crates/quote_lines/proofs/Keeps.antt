@@ -9,9 +9,9 @@ use Rattle.quote_lines.specs.Store.{byte_read, fed}
 use Rattle.quote_lines.specs.declared.reader.Reader.{Reader}
 
 module _ (r : Reader) where
-  pub fed-none : fed r [] ≡ r
+  pub fed_none : fed r [] ≡ r
   unfolding fed
-  fed-none = refl
+  fed_none = refl
 
   pub fed_append : (xs ys : List ℕ) → fed r (xs ++ ys) ≡ fed (fed r xs) ys
   unfolding fed

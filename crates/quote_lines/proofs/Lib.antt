@@ -1,5 +1,4 @@
 -- Laws that the functions' proofs cite, and the format's own laws.
-pub mod Accepts
 pub mod Fields
 pub mod Inputs
 pub mod Keeps

@@ -1,18 +1,19 @@
 -- The machine's bytes of a line say what the format says of the line. Assumes nothing.
 use Prim.Native.Nat.{ℕ, ◌^◌, ◌≤◌}
-use native.Mathlib.Nat.{le_trans}
 use mathlib.Core.Path.{◌≡◌, refl, ap, sym, ◌∙◌}
-use mathlib.Core.Bool.{Bool, true, false, cond, ◌&&◌, false≢true}
+use mathlib.Core.Bool.{Bool, true, false, cond, ◌&&◌}
 use mathlib.Core.List.{List, [], ◌∷◌, map, foldl}
 use mathlib.Core.Option.{Option, none, some}
 use lib.Dec.{ltb, eqb, lit≤}
-use borrow.Author.Tests.{lt-ltb, le-ltb, ltb-false, ne_eqb}
+use native.Mathlib.Omega.{arith}
+use Rattle.std.proofs.lemmas.Bool.Decides.{nat_tests}
+use borrow.Author.Tests.{lt-ltb}
 use Rattle.quote_lines.specs.Bytes.{space, dash, letter_d, letter_t, is_digit}
 use Rattle.quote_lines.specs.Format.{onto, fields, all_digits, is_numeral, value, numeral, is, Said, entry, ill, rate_line, depth_line, target_line, says_fields, says}
 use Rattle.quote_lines.specs.Machine.{grown, kind_of, within, rate_of, next}
 use Rattle.quote_lines.specs.Store.{say_of}
 use Rattle.quote_lines.specs.declared.field.Field.{Field}
-use Rattle.quote_lines.specs.declared.field.Field.TheVariants.{Empty, LetterD, LetterT, Dash, Number, Other}
+use Rattle.quote_lines.specs.declared.field.Field.TheVariants.{Empty}
 use Rattle.quote_lines.specs.declared.line.Line.{Line}
 use Rattle.quote_lines.specs.declared.line.Line.TheVariants.{Nothing, AfterD, AfterDepth, AfterT, Target, Bad}
 use Rattle.quote_lines.proofs.Fields.{field_of, Sort, none_read, one_D, one_T, one-dash, digits, else, sort}
@@ -65,14 +66,13 @@ bad-stays [] = refl
 bad-stays (f ∷ fs) = bad-stays fs
 
 -- a field of digits is no other byte
+one_byte_not : (b x : ℕ) → is_digit b ≡ false → (is_digit x && true) ≡ true → eqb x b ≡ false
+one_byte_not b x d e = grind (arith, nat_tests)
+
 digits-not : (b : ℕ) (q : List ℕ) → is_digit b ≡ false → is_numeral q ≡ true → is b q ≡ false
 unfolding is_numeral all_digits is
 digits-not b [] d e = refl
-digits-not b (x ∷ []) d e = ne_eqb x b (λ h. false≢true (sym d ∙ ap is_digit (sym h) ∙ sym (and_tt (is_digit x)) ∙ e))
-  where
-    and_tt : (t : Bool) → (t && true) ≡ t
-    and_tt true = refl
-    and_tt false = refl
+digits-not b (x ∷ []) d e = one_byte_not b x d e
 digits-not b (x ∷ y ∷ q) d e = refl
 
 pub data Kind (q : List ℕ) : Type 0 where
@@ -96,19 +96,14 @@ or_bad g none = Bad
 -- a number within a smaller bound
 none_below : (bound : ℕ) (q : List ℕ) → bound ≤ 2 ^ 64 → (is_numeral q && ltb (value q) (2 ^ 64)) ≡ false → numeral bound q ≡ none
 unfolding numeral
-none_below bound q h e = by (is_numeral q) e
-  where
-    by : (t : Bool) → (t && ltb (value q) (2 ^ 64)) ≡ false → cond (t && ltb (value q) bound) (some (value q)) none ≡ none
-    by true p = rw (le-ltb (value q) bound (le_trans h (ltb-false (value q) (2 ^ 64) p)))
-    by false p = refl
+none_below bound q h e = grind (arith, nat_tests)
 
 some_below : (bound : ℕ) (q : List ℕ) → is_numeral q ≡ true → numeral bound q ≡ cond (ltb (value q) bound) (some (value q)) none
 unfolding numeral
 some_below bound q e = rw e
 
 in-cond : (g : ℕ → Line) (n : ℕ) (t : Bool) → cond t (g n) Bad ≡ or_bad g (cond t (some n) none)
-in-cond g n true = refl
-in-cond g n false = refl
+in-cond g n t = grind arith
 
 no-numeral : (bound : ℕ) (b : ℕ) (q : List ℕ) → is_digit b ≡ false → q ≡ b ∷ [] → numeral bound q ≡ none
 unfolding numeral is_numeral all_digits
@@ -142,12 +137,7 @@ closed l = (f : Field) → next l f ≡ Bad
 
 rate_closed : (d : ℕ) (f : Field) → closed (rate_of d f)
 unfolding closed
-rate_closed d Empty = λ g. refl
-rate_closed d LetterD = λ g. refl
-rate_closed d LetterT = λ g. refl
-rate_closed d Dash = λ g. refl
-rate_closed d (Number n) = λ g. refl
-rate_closed d Other = λ g. refl
+rate_closed d f g = grind arith
 
 closed-ill : (l : Line) (f : Field) (fs : List Field) → closed l → say_of (foldl next l (f ∷ fs)) ≡ ill
 unfolding closed
@@ -156,18 +146,15 @@ closed-ill l f fs c = rw (c f, bad-stays fs)
 -- after `T`: one field
 target_one : (o : Option ℕ) → say_of (or_bad Target o) ≡ target_line o
 unfolding target_line
-target_one (some t) = refl
-target_one none = refl
+target_one o = grind arith
 
 target_closed : (o : Option ℕ) → closed (or_bad Target o)
 unfolding closed
-target_closed (some t) = λ g. refl
-target_closed none = λ g. refl
+target_closed o g = grind arith
 
 -- after `D`: two fields
 depth-one : (o : Option ℕ) → say_of (or_bad AfterDepth o) ≡ ill
-depth-one (some d) = refl
-depth-one none = refl
+depth-one o = grind arith
 
 depth-two : (o : Option ℕ) (q : List ℕ) → say_of (next (or_bad AfterDepth o) (field_of q)) ≡ depth_line o q
 unfolding depth_line
@@ -176,8 +163,7 @@ depth-two none q = refl
 
 depth_closed : (o : Option ℕ) (f : Field) → closed (next (or_bad AfterDepth o) f)
 unfolding closed
-depth_closed (some d) f = unfold closed in rate_closed d f
-depth_closed none f = λ g. refl
+depth_closed o f g = grind arith
 
 -- by the first field
 fields_bad : (k : List ℕ) (fs : List (List ℕ)) → is letter_d k ≡ false → is letter_t k ≡ false → ill ≡ says_fields (k ∷ fs)

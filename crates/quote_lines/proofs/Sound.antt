@@ -1,19 +1,18 @@
 -- What holds of every board that is read: lists of one length, marks 0 or 1, depths that never descend. Assumes nothing.
 use Prim.Native.Nat.{ℕ, suc, ◌+◌, ◌-◌, ◌^◌, ◌≤◌, ◌<◌}
-use native.Mathlib.Nat.{le_trans, le_refl, eq-or-lt_of_le}
+use native.Mathlib.Nat.{le_trans}
 use native.Mathlib.Omega.{arith}
 use mathlib.Core.Path.{◌≡◌, refl, ap, sym, ◌∙◌}
-use mathlib.Core.Logic.{⊎_elim}
 use mathlib.Core.Bool.{Bool, true, false, cond, ◌&&◌}
 use mathlib.Core.List.{List, [], ◌∷◌, ◌++◌}
 use mathlib.Core.Option.{Option, none, some}
 use lib.Dec.{leb, ltb, eqb, lit≤}
 use lib.ListN.{length, get_or, length-append, get_or-append}
 use lib.Seq.{get_or-append_seam}
+use Rattle.std.proofs.lemmas.Bool.{and_parts}
 use borrow.Author.Tests.{leb-true}
 use Rattle.quote_lines.specs.Bytes.{dash, letter_d, letter_t}
 use Rattle.quote_lines.specs.Format.{numeral, is, Said, entry, target, ill, rate_line, depth_line, target_line, says_fields, fields, says, lines, Board, last, accept, Input, board, bad_line, or_bad_line, read_lines, parse}
-use Rattle.quote_lines.proofs.Fields.{and_right}
 
 pub record Sound (b : Board) : Type 0 where
   pub rates-long : length b.rates ≡ length b.depths
@@ -70,20 +69,14 @@ module _ (xs : List ℕ) (x : ℕ) where
   before_end i h = get_or-append xs (x ∷ []) 0 i h
 
   small_more : x ≤ 1 → ((i : ℕ) → i < length xs → get_or xs i 0 ≤ 1) → (i : ℕ) → i < length (xs ++ x ∷ []) → get_or (xs ++ x ∷ []) i 0 ≤ 1
-  small_more h all i l =
-      ⊎_elim (λ e. rw (at_end i e) h) (λ m. rw (before_end i m) (all i m))
-      (eq-or-lt_of_le (omega (arith, one_longer)))
+  small_more h all i l = grind (arith, at_end i, before_end i, one_longer, all i)
 
   last-is_most : ((i j : ℕ) → i ≤ j → j < length xs → get_or xs i 0 ≤ get_or xs j 0) → last xs ≤ x → (i : ℕ) → i < length xs → get_or xs i 0 ≤ x
   last-is_most up h i l = le_trans (up i (length xs - 1) (omega arith) (omega arith)) h
 
   ascends_more : ((i j : ℕ) → i ≤ j → j < length xs → get_or xs i 0 ≤ get_or xs j 0) → last xs ≤ x
       → (i j : ℕ) → i ≤ j → j < length (xs ++ x ∷ []) → get_or (xs ++ x ∷ []) i 0 ≤ get_or (xs ++ x ∷ []) j 0
-  ascends_more up h i j l k =
-      ⊎_elim
-      (λ e. ⊎_elim (λ f. rw (at_end j e, at_end i f) (le_refl x)) (λ m. rw (at_end j e, before_end i m) (last-is_most up h i m)) (eq-or-lt_of_le (omega arith)))
-      (λ m. rw (before_end j m, before_end i (omega arith)) (up i j l m))
-      (eq-or-lt_of_le (omega (arith, one_longer)))
+  ascends_more up h i j l k = grind (arith, at_end i, at_end j, before_end i, before_end j, one_longer, up i j, last-is_most up h i)
 
 -- ---- each line keeps a board sound
 abbrev SoundIf : Option Board → Type 0
@@ -98,7 +91,7 @@ entry-sound b d r m true s h e =
       rates-long = one_longer b.rates r ∙ ap (λ (k : ℕ). k + 1) s.rates-long ∙ sym (one_longer b.depths d);
       marks-long = one_longer b.marks m ∙ ap (λ (k : ℕ). k + 1) s.marks-long ∙ sym (one_longer b.depths d);
       marks-small = small_more b.marks m h s.marks-small;
-      ascends = ascends_more b.depths d s.ascends (leb-true _ _ (and_right (ltb (length b.depths) 64) _ (and_right (eqb (length b.targets) 0) _ e)));
+      ascends = ascends_more b.depths d s.ascends (leb-true _ _ (and_parts (ltb (length b.depths) 64) _ (and_parts (eqb (length b.targets) 0) _ e).1).1);
     }
 entry-sound b d r m false s h e = tt
 

@@ -68,6 +68,7 @@ impl Board {
         self.targets.is_empty() && !self.depths.is_full() && self.last_depth() <= depth
     }
 
+    #[tactic(auto, unfolding(crate::specs::Format::accept))]
     fn push_entry(&mut self, depth: u32, rate: Option<u64>) -> Result<(), BadLine>
         ensures board { self.new ≡ board_after self.old (accept self.old (say_of (Line.Entry depth rate))) }
         ensures bad { result_err result ≡ bad_of self.old (accept self.old (say_of (Line.Entry depth rate))) }
@@ -81,6 +82,7 @@ impl Board {
         Ok(())
     }
 
+    #[tactic(auto, unfolding(crate::specs::Format::accept))]
     fn push_target(&mut self, t: u32) -> Result<(), BadLine>
         ensures board { self.new ≡ board_after self.old (accept self.old (target t)) }
         ensures bad { result_err result ≡ bad_of self.old (accept self.old (target t)) }
@@ -92,6 +94,7 @@ impl Board {
     }
 
     // A whole line more. A bad line changes nothing.
+    #[tactic(auto, unfolding(crate::specs::Format::accept))]
     pub(crate) fn accept(&mut self, line: Line) -> Result<(), BadLine>
         ensures board { self.new ≡ board_after self.old (accept self.old (say_of line)) }
         ensures bad { result_err result ≡ bad_of self.old (accept self.old (say_of line)) }

@@ -31,6 +31,7 @@ impl Reader {
     }
 
     // The end of a line.
+    #[tactic(auto, unfolding(crate::specs::Store::line_ended))]
     fn end_line(&mut self)
         ensures { self.new ≡ line_ended self.old }
     {
@@ -43,6 +44,7 @@ impl Reader {
     }
 
     // One byte more.
+    #[tactic(auto, unfolding(crate::specs::Store::byte_read))]
     fn read_byte(&mut self, b: u8)
         ensures { self.new ≡ byte_read self.old b }
     {
@@ -57,6 +59,7 @@ impl Reader {
     }
 
     // The next part of the input.
+    #[tactic(auto, using(crate::proofs::Keeps::fed_none, crate::proofs::Keeps::fed_more))]
     pub fn feed(&mut self, input: &[u8])
         ensures { self.new ≡ fed self.old input.now }
     {
@@ -73,6 +76,7 @@ impl Reader {
     }
 
     // The end of the input. A line that has begun may lack its newline.
+    #[tactic(auto, unfolding(crate::specs::Store::finished))]
     pub fn finish(mut self) -> Result<Board, BadLine>
         ensures { result ≡ finished self }
     {
@@ -87,6 +91,7 @@ impl Reader {
 }
 
 // A whole input.
+#[tactic(auto, using(crate::proofs::Inputs::reads))]
 pub fn read(input: &[u8]) -> Result<Board, BadLine>
     ensures kept { result ≡ finished (fed new_reader input.now) }
     ensures parsed { seen result ≡ parse input.now }
