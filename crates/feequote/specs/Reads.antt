@@ -1,11 +1,14 @@
--- What the program has read and what it will write. No contract can say which bytes standard input gives, so each claim is about some list of bytes; where a reader's type says which bytes it has left, and a writer's which it holds, the claims are about those. Definitions only.
+-- What the program has read and what it will write. No contract can say which bytes standard input gives, so each claim
+-- is about some list of bytes; where a reader's type says which bytes it has left, and a writer's which it holds, the
+-- claims are about those. Definitions only.
 use Rattle.std.specs.Prelude.{ℕ, ◌≡◌, List, Option, IfSome}
 use Rattle.std.specs.Io.KnownBytes.{Appends, Consumes}
 use Rattle.quote_lines.specs.Store.{fed}
 use Rattle.quote_lines.specs.declared.reader.Reader.{Reader}
 use Rattle.quote_board.specs.Text.{feequote}
 
--- some bytes bring the one state to the other; of a reader that had known bytes left, these bytes stood in front, and the rest is left
+-- some bytes bring the one state to the other; of a reader that had known bytes left, these bytes stood in front, and
+-- the rest is left
 pub record Fed (had left : Option (List ℕ)) (r s : Reader) : Type 0 where
   pub bytes : List ℕ
   pub reached : s ≡ fed r bytes

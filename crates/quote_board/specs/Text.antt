@@ -23,7 +23,8 @@ rate_text (refusal k) = dash ∷ []
 
 -- "It holds, then prints target and rate": the line of a target, from the entries as the hold pass leaves them
 unfoldable pub quote_line : List ℕ → List ℕ → List ℕ → ℕ → List ℕ
-quote_line depths rates marks t = decimal t ++ (space ∷ []) ++ rate_text (fee_at_target_sat_kvb depths rates marks t) ++ (newline ∷ [])
+quote_line depths rates marks t =
+    decimal t ++ (space ∷ []) ++ rate_text (fee_at_target_sat_kvb depths rates marks t) ++ (newline ∷ [])
 
 unfoldable pub quote_lines : List ℕ → List ℕ → List ℕ → List ℕ → List ℕ
 quote_lines depths rates marks [] = []
@@ -38,7 +39,12 @@ bad_start = 98 ∷ 97 ∷ 100 ∷ 32 ∷ 108 ∷ 105 ∷ 110 ∷ 101 ∷ 32 ∷ 
 
 -- the board as the hold pass leaves it
 abbrev pub held : Board → Board
-held b = record { depths = b.depths; rates = held_numbers b.rates b.marks; marks = held_marks b.rates b.marks; targets = b.targets }
+held b = record {
+  depths = b.depths;
+  rates = held_numbers b.rates b.marks;
+  marks = held_marks b.rates b.marks;
+  targets = b.targets;
+}
 
 abbrev pub quotes : Board → List ℕ
 quotes b = header ++ quote_lines b.depths (held_numbers b.rates b.marks) (held_marks b.rates b.marks) b.targets

@@ -6,7 +6,8 @@ ghost use Rattle.arrayvec.specs.ArrayVec.{array_vec_len};
 ghost use Rattle.rbitcoin_mempool.specs.Answer.{answer};
 ghost use Rattle.quote_lines.specs.Store.{seen};
 ghost use Rattle.quote_lines.specs.Bytes.{newline};
-ghost use Rattle.quote_board.specs.Text.{held, decimal, rate_text, quote_line, quote_lines, quotes, bad_text, text, feequote};
+ghost use Rattle.quote_board.specs.Text.{held, decimal, rate_text, quote_line, quote_lines};
+ghost use Rattle.quote_board.specs.Text.{quotes, bad_text, text, feequote};
 
 use arrayvec::ArrayVec;
 use quote_lines::board::{BadLine, Board};

@@ -12,7 +12,7 @@ use Rattle.std.specs.Prelude.{Option, Some, None}
 use Rattle.quote_lines.specs.Bytes.{newline, space}
 use Rattle.quote_lines.specs.Format.{onto, lines, Said, says, Board, accept, Input, bad_line, or_bad_line, read_lines, parse}
 use Rattle.quote_lines.specs.Machine.{grown, next}
-use Rattle.quote_lines.specs.Store.{say_of, empty_board, next_line, between, new_reader, board_after, bad_of, keep_line, line_ended, at_line_start, byte_read, fed, kept_of, finished, seen}
+use Rattle.quote_lines.specs.Store.{say_of, empty_board, next_line, reader, between, new_reader, board_after, bad_of, keep_line, line_ended, at_line_start, byte_read, fed, kept_of, finished, seen}
 use Rattle.quote_lines.specs.declared.field.Field.{Field}
 use Rattle.quote_lines.specs.declared.field.Field.TheVariants.{Empty}
 use Rattle.quote_lines.specs.declared.line.Line.{Line}
@@ -22,10 +22,6 @@ use Rattle.quote_lines.specs.declared.reader.Reader.{Reader}
 use Rattle.quote_lines.proofs.Lines.{ended, line-says}
 
 -- ---- the bytes of an input, and its lines
--- a reader whose line has begun
-abbrev begun : Line → Field → Board → Option BadLine → Reader
-begun l f b o = record { line = l; field = f; board = b; bad = o }
-
 -- what whole lines leave, behind what is kept
 keep_lines : Board → Option BadLine → List (List ℕ) → Input
 keep_lines b o [] = seen (kept_of b o)
@@ -33,7 +29,7 @@ keep_lines b o (p ∷ ps) = let r = keep_line b o (say_of (ended Nothing Empty p
 
 -- the rest of an input, the first line of which may have begun
 rest : Line → Field → Board → Option BadLine → List (List ℕ) → Input
-rest l f b o [] = seen (finished (begun l f b o))
+rest l f b o [] = seen (finished (reader l f b o))
 rest l f b o (p ∷ ps) = let r = keep_line b o (say_of (ended l f p)) in keep_lines r.board r.bad ps
 
 rest-fresh : (b : Board) (o : Option BadLine) (ps : List (List ℕ)) → rest Nothing Empty b o ps ≡ keep_lines b o ps
@@ -66,8 +62,8 @@ ended-fresh b None s = refl
 ended-fresh b (Some n) s = refl
 
 fed_by : (l : Line) (f : Field) (b : Board) (o : Option BadLine) (x : ℕ) (bs : List ℕ) (t u : Bool) → eqb x space ≡ u
-    → ((l' : Line) (f' : Field) (b' : Board) (o' : Option BadLine) → seen (finished (foldl byte_read (begun l' f' b' o') bs)) ≡ rest l' f' b' o' (lines bs))
-    → seen (finished (foldl byte_read (cond t (line_ended (begun l f b o)) (cond u (begun (next l f) Empty b o) (begun l (grown f x) b o))) bs))
+    → ((l' : Line) (f' : Field) (b' : Board) (o' : Option BadLine) → seen (finished (foldl byte_read (reader l' f' b' o') bs)) ≡ rest l' f' b' o' (lines bs))
+    → seen (finished (foldl byte_read (cond t (line_ended (reader l f b o)) (cond u (reader (next l f) Empty b o) (reader l (grown f x) b o))) bs))
     ≡ rest l f b o (cond t ([] ∷ lines bs) (onto x (lines bs)))
 unfolding rest line_ended
 fed_by l f b o x bs true u e ih =
@@ -78,7 +74,7 @@ fed_by l f b o x bs true u e ih =
 fed_by l f b o x bs false true e ih = ih (next l f) Empty b o ∙ onto-space l f b o x (lines bs) e
 fed_by l f b o x bs false false e ih = ih l (grown f x) b o ∙ onto-other l f b o x (lines bs) e
 
-fed_rest : (bs : List ℕ) (l : Line) (f : Field) (b : Board) (o : Option BadLine) → seen (finished (foldl byte_read (begun l f b o) bs)) ≡ rest l f b o (lines bs)
+fed_rest : (bs : List ℕ) (l : Line) (f : Field) (b : Board) (o : Option BadLine) → seen (finished (foldl byte_read (reader l f b o) bs)) ≡ rest l f b o (lines bs)
 unfolding byte_read lines rest
 fed_rest [] l f b o = refl
 fed_rest (x ∷ bs) l f b o = fed_by l f b o x bs (eqb x newline) (eqb x space) refl (fed_rest bs)

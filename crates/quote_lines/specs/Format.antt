@@ -85,10 +85,17 @@ last ds = get_or ds (length ds - 1) 0
 unfoldable pub accept : Board → Said → Option Board
 accept b (entry d r m) =
     cond (eqb (length b.targets) 0 && (ltb (length b.depths) 64 && leb (last b.depths) d))
-    (some (record { depths = b.depths ++ d ∷ []; rates = b.rates ++ r ∷ []; marks = b.marks ++ m ∷ []; targets = b.targets }))
+    (some (record {
+      depths = b.depths ++ d ∷ [];
+      rates = b.rates ++ r ∷ [];
+      marks = b.marks ++ m ∷ [];
+      targets = b.targets;
+    }))
     none
 accept b (target t) =
-    cond (ltb (length b.targets) 64) (some (record { depths = b.depths; rates = b.rates; marks = b.marks; targets = b.targets ++ t ∷ [] })) none
+    cond (ltb (length b.targets) 64)
+    (some (record { depths = b.depths; rates = b.rates; marks = b.marks; targets = b.targets ++ t ∷ [] }))
+    none
 accept b ill = none
 
 -- "`bad line n`, n from 1, for the first such line"

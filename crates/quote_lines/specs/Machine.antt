@@ -1,4 +1,5 @@
--- Fields and lines read a byte at a time: the functions that the code's steps equal. What whole lines say is stated in `Format`. Definitions only.
+-- Fields and lines read a byte at a time: the functions that the code's steps equal. What whole lines say is stated in
+-- `Format`. Definitions only.
 use Rattle.std.specs.Prelude.{ℕ, ◌^◌, cond, ltb, eqb, Option, Some, None}
 use Rattle.quote_lines.specs.Bytes.{dash, letter_d, letter_t, is_digit, shifted}
 use Rattle.quote_lines.specs.declared.field.Field.{Field}

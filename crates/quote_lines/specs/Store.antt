@@ -1,5 +1,7 @@
--- What is kept of the lines read, and the reading of a byte: the functions that the code's steps equal. What a whole input says is stated in `Format`. Definitions only.
-use Rattle.std.specs.Prelude.{ℕ, ◌+◌, Bool, true, false, cond, ◌&&◌, leb, ltb, eqb, ◌==◌, length, Option, Some, None, Result, Ok, Err}
+-- What is kept of the lines read, and the reading of a byte: the functions that the code's steps equal. What a whole
+-- input says is stated in `Format`. Definitions only.
+use Rattle.std.specs.Prelude.{ℕ, ◌+◌, Bool, true, false, cond, ◌&&◌, leb, ltb, eqb, ◌==◌, length}
+use Rattle.std.specs.Prelude.{Option, Some, None, Result, Ok, Err}
 use mathlib.Core.List.{List, [], foldl}
 use Rattle.std.proofs.Math.Option as maybe
 use Rattle.quote_lines.specs.Bytes.{newline, space}
@@ -30,9 +32,13 @@ empty_board = record { depths = []; rates = []; marks = []; targets = [] }
 abbrev pub next_line : Board → BadLine
 next_line b = record { 0 = length b.depths + length b.targets + 1 }
 
+-- between two bytes: what the line says so far, what its last field says so far, and what is kept
+abbrev pub reader : Line → Field → Board → Option BadLine → Reader
+reader l f b o = record { line = l; field = f; board = b; bad = o }
+
 -- between two lines
 abbrev pub between : Board → Option BadLine → Reader
-between b o = record { line = Nothing; field = Empty; board = b; bad = o }
+between b o = reader Nothing Empty b o
 
 abbrev pub new_reader : Reader
 new_reader = between empty_board None
@@ -63,7 +69,8 @@ line_ended r = keep_line r.board r.bad (say_of (next r.line r.field))
 unfoldable pub byte_read : Reader → ℕ → Reader
 byte_read r b =
     cond (b == newline) (line_ended r)
-    (cond (b == space) (record { line = next r.line r.field; field = Empty; board = r.board; bad = r.bad }) (record { line = r.line; field = grown r.field b; board = r.board; bad = r.bad }))
+    (cond (b == space) (reader (next r.line r.field) Empty r.board r.bad)
+    (reader r.line (grown r.field b) r.board r.bad))
 
 unfoldable pub fed : Reader → List ℕ → Reader
 fed r bs = foldl byte_read r bs

@@ -14,7 +14,8 @@ const MOST: usize = 64;
 #[derive(Clone, Copy, Debug, PartialEq, Eq)]
 pub struct BadLine(pub u64);
 
-// The entries in order, and the targets. The estimator takes the numbers and the marks of the rates apart.
+// The entries in order, and the targets. An entry's depth, rate and mark stand in lists of their own, since the
+// lookup and the hold pass take them so, as the C interface does.
 #[derive(Drop)]
 pub struct Board {
     pub depths: ArrayVec<u32, MOST>,
@@ -25,14 +26,21 @@ pub struct Board {
 
 // Clauses see the four lists.
 impl Model for Board {
-    ghost use Rattle.std.specs.Prelude.{◌≡◌, ◌≤◌, length};
+    ghost use Rattle.std.specs.Prelude.{◌≡◌};
+    ghost use Rattle.arrayvec.specs.ArrayVec.{array_vec_len};
     ghost use Rattle.quote_lines.specs.Format.{Board as Lists};
 
     ghost Value = { Lists };
 
-    ghost view = { λ b. record { depths = b.depths.items; rates = b.rates.items; marks = b.marks.items; targets = b.targets.items } };
+    ghost view = { λ b. record {
+      depths = b.depths.items;
+      rates = b.rates.items;
+      marks = b.marks.items;
+      targets = b.targets.items;
+    } };
 
-    ghost invariant = { λ b. (length b.rates.items ≡ length b.depths.items) × (length b.marks.items ≡ length b.depths.items) };
+    ghost invariant = { λ b. (array_vec_len b.rates ≡ array_vec_len b.depths)
+        × (array_vec_len b.marks ≡ array_vec_len b.depths) };
 }
 
 impl Board {
