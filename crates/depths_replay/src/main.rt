@@ -5,20 +5,20 @@
 // 0, the mark and the rate.
 #![tactic(auto)]
 
+ghost use Rattle.std.specs.Prelude.{◌≤◌};
+
 use rbitcoin_mempool::answer::{Outcome, Rate, RateAnswer};
 use rbitcoin_mempool::fee_est;
-use replay_lines::{after_list, copy_u8, copy_u32, copy_u64, list, put, word_at};
+use replay_lines::put;
+use replay_lines::question::Question;
+use replay_lines::words::Words;
 use std::io;
 use std::io::Write;
-
-fn put_mark<W: Write>(to: &mut W, mark: u8) -> io::Result<()> {
-    put::next(to, mark as u64)
-}
 
 fn put_marks<W: Write>(to: &mut W, list: &[u8]) -> io::Result<()> {
     put::next(to, list.len() as u64)?;
     for mark in list {
-        put_mark(to, *mark)?;
+        put::next(to, u64::from(*mark))?;
     }
     Ok(())
 }
@@ -45,37 +45,54 @@ fn put_answer<W: Write>(to: &mut W, answer: RateAnswer) -> io::Result<()> {
     put::newline(to)
 }
 
+fn refusal_number(outcome: Outcome) -> u64 {
+    match outcome {
+        Outcome::Done => 0,
+        Outcome::Refused(number) => number as u64,
+    }
+}
+
 fn put_left<W: Write>(
     to: &mut W,
     outcome: Outcome,
     numbers: &[u64],
     marks: &[u8],
 ) -> io::Result<()> {
-    match outcome {
-        Outcome::Done => put::word(to, 0)?,
-        Outcome::Refused(number) => put::word(to, number as u64)?,
-    }
+    put::word(to, refusal_number(outcome))?;
     put::space(to)?;
     put::list(to, numbers)?;
     put_marks(to, marks)?;
     put::newline(to)
 }
 
-fn blocks(words: &[u64], at: usize) -> u32 {
-    (word_at(words, at) % 4294967296) as u32
-}
-
-fn share(words: &[u64], at: usize) -> f64 {
-    replay_lines::float_of(word_at(words, at))
-}
-
-// The rate whose mark stands at a place; any other mark than 1 is missing.
-fn rate(words: &[u64], at: usize) -> Rate {
-    let pair = replay_lines::part(words, at, 2);
-    if word_at(pair, 0) == 1 {
-        return Rate::There(word_at(pair, 1));
+// A rate that is there has the mark 1.
+fn rate(words: &mut Words) -> Rate {
+    let mark = words.u64();
+    let number = words.u64();
+    match mark {
+        1 => Rate::There(number),
+        _ => Rate::Missing,
     }
-    Rate::Missing
+}
+
+// A list of marks, of which the first 64 are kept.
+#[derive(Clone, Copy)]
+struct Marks {
+    list: [u8; 64],
+    count: usize,
+    ghost in_list: { count ≤ 64 },
+}
+
+impl Marks {
+    fn read(words: &mut Words) -> Marks {
+        let mut list = [0u8; 64];
+        let count = words.copy_list(&mut list);
+        Marks { list, count }
+    }
+
+    fn as_slice(&self) -> &[u8] {
+        &self.list[..self.count]
+    }
 }
 
 fn put_monotone<W: Write>(to: &mut W, rates: &mut [u64]) -> io::Result<()> {
@@ -84,9 +101,9 @@ fn put_monotone<W: Write>(to: &mut W, rates: &mut [u64]) -> io::Result<()> {
     put::newline(to)
 }
 
-fn monotone<W: Write>(to: &mut W, words: &[u64]) -> io::Result<()> {
+fn monotone<W: Write>(to: &mut W, mut words: Words) -> io::Result<()> {
     let mut rates = [0u64; 64];
-    let n = copy_u64(list(words, 0), &mut rates);
+    let n = words.copy_list(&mut rates);
     put_monotone(to, &mut rates[..n])
 }
 
@@ -95,210 +112,115 @@ fn put_held<W: Write>(to: &mut W, rates: &mut [u64], marks: &mut [u8]) -> io::Re
     put_left(to, outcome, rates, marks)
 }
 
-fn hold<W: Write>(to: &mut W, words: &[u64]) -> io::Result<()> {
+fn hold<W: Write>(to: &mut W, mut words: Words) -> io::Result<()> {
     let mut rates = [0u64; 64];
+    let n = words.copy_list(&mut rates);
     let mut marks = [0u8; 64];
-    let n = copy_u64(list(words, 0), &mut rates);
-    let m = copy_u8(list(words, after_list(words, 0)), &mut marks);
+    let m = words.copy_list(&mut marks);
     put_held(to, &mut rates[..n], &mut marks[..m])
 }
 
-fn lookup<W: Write>(to: &mut W, words: &[u64]) -> io::Result<()> {
+fn lookup(mut words: Words) -> RateAnswer {
+    let target = words.u32();
     let mut depths = [0u32; 64];
-    let mut marks = [0u8; 64];
-    let n = copy_u32(list(words, 1), &mut depths);
-    let rates = after_list(words, 1);
-    let m = copy_u8(list(words, after_list(words, rates)), &mut marks);
-    put_answer(
-        to,
-        fee_est::fee_at_target_sat_kvb(
-            &depths[..n],
-            list(words, rates),
-            &marks[..m],
-            blocks(words, 0),
-        ),
-    )
-}
-
-fn put_published<W: Write>(
-    to: &mut W,
-    depths: &[u32],
-    projected: &[u64],
-    projected_marks: &[u8],
-    frontier: &[u64],
-    frontier_marks: &[u8],
-    history: &[u64],
-    history_marks: &[u8],
-    confirm: Rate,
-    alpha: f64,
-    out: &mut [u64],
-    out_marks: &mut [u8],
-) -> io::Result<()> {
-    let outcome = fee_est::published_depth_rates(
-        depths,
-        projected,
-        projected_marks,
-        frontier,
-        frontier_marks,
-        history,
-        history_marks,
-        confirm,
-        alpha,
-        out,
-        out_marks,
-    );
-    put_left(to, outcome, out, out_marks)
+    let n = words.copy_list(&mut depths);
+    let rates = words.list();
+    let marks = Marks::read(&mut words);
+    fee_est::fee_at_target_sat_kvb(&depths[..n], rates, marks.as_slice(), target)
 }
 
 // Depths, three lists of rates with their marks, a list to write with its marks, a rate and a share.
-fn publish<W: Write>(to: &mut W, words: &[u64]) -> io::Result<()> {
-    let projected_at = after_list(words, 0);
-    let at = after_list(words, projected_at);
-    let frontier_at = after_list(words, at);
+fn publish<W: Write>(to: &mut W, mut words: Words) -> io::Result<()> {
     let mut depths = [0u32; 64];
-    let n = copy_u32(list(words, 0), &mut depths);
-    let depths = &depths[..n];
-    let mut projected_marks = [0u8; 64];
-    let n = copy_u8(list(words, at), &mut projected_marks);
-    let projected_marks = &projected_marks[..n];
-    let at = after_list(words, frontier_at);
-    let history_at = after_list(words, at);
-    let mut frontier_marks = [0u8; 64];
-    let n = copy_u8(list(words, at), &mut frontier_marks);
-    let frontier_marks = &frontier_marks[..n];
-    let at = after_list(words, history_at);
-    let out_at = after_list(words, at);
-    let mut history_marks = [0u8; 64];
-    let n = copy_u8(list(words, at), &mut history_marks);
-    let history_marks = &history_marks[..n];
-    let projected = list(words, projected_at);
-    let frontier = list(words, frontier_at);
-    let history = list(words, history_at);
-    let at = after_list(words, out_at);
-    let last = replay_lines::part(words, after_list(words, at), 3);
-    let confirm = rate(last, 0);
-    let alpha = share(last, 2);
+    let n = words.copy_list(&mut depths);
+    let projected = words.list();
+    let projected_marks = Marks::read(&mut words);
+    let frontier = words.list();
+    let frontier_marks = Marks::read(&mut words);
+    let history = words.list();
+    let history_marks = Marks::read(&mut words);
     let mut out = [0u64; 64];
+    let k = words.copy_list(&mut out);
     let mut out_marks = [0u8; 64];
-    let n = copy_u64(list(words, out_at), &mut out);
-    let m = copy_u8(list(words, at), &mut out_marks);
-    put_published(
-        to,
-        depths,
+    let m = words.copy_list(&mut out_marks);
+    let confirm = rate(&mut words);
+    let outcome = fee_est::published_depth_rates(
+        &depths[..n],
         projected,
-        projected_marks,
+        projected_marks.as_slice(),
         frontier,
-        frontier_marks,
+        frontier_marks.as_slice(),
         history,
-        history_marks,
+        history_marks.as_slice(),
         confirm,
-        alpha,
-        &mut out[..n],
+        words.f64(),
+        &mut out[..k],
         &mut out_marks[..m],
+    );
+    put_left(to, outcome, &out[..k], &out_marks[..m])
+}
+
+// Two rates for a depth.
+fn of_depth(combine: fn(Rate, Rate, u32) -> Rate, mut words: Words) -> Rate
+    requires { IsAlwaysCallable combine }
+{
+    let n = words.u32();
+    combine(rate(&mut words), rate(&mut words), n)
+}
+
+fn warmup(mut words: Words) -> Rate {
+    fee_est::warmup_blend(words.f64(), rate(&mut words), rate(&mut words))
+}
+
+fn depth_rate(mut words: Words) -> Rate {
+    fee_est::depth_rate_sat_kvb(
+        words.u32(),
+        words.u64() == 1,
+        rate(&mut words),
+        rate(&mut words),
+        rate(&mut words),
     )
 }
 
-// Each of the following answers the functions of one group of arguments, and says whether the name
-// was one of them.
-
-fn of_depth<W: Write>(to: &mut W, name: &[u8], words: &[u64]) -> io::Result<bool> {
-    let n = blocks(words, 0);
-    match name {
-        b"blend_weight" => put::float(to, fee_est::blend_weight(n))?,
-        b"flow_for_depth" => put_rate(
-            to,
-            fee_est::flow_for_depth(rate(words, 1), rate(words, 3), n),
-        )?,
-        b"blend_sat_kvb" => put_rate(
-            to,
-            fee_est::blend_sat_kvb(rate(words, 1), rate(words, 3), n),
-        )?,
-        b"warmup_blend" => put_rate(
-            to,
-            fee_est::warmup_blend(share(words, 0), rate(words, 1), rate(words, 3)),
-        )?,
-        b"depth_rate_sat_kvb" => {
-            let warm = word_at(words, 1) == 1;
-            put_rate(
-                to,
-                fee_est::depth_rate_sat_kvb(
-                    n,
-                    warm,
-                    rate(words, 2),
-                    rate(words, 4),
-                    rate(words, 6),
-                ),
-            )?;
-        }
-        _ => return Ok(false),
-    }
-    Ok(true)
-}
-
-fn published<W: Write>(to: &mut W, words: &[u64]) -> io::Result<()> {
-    put_rate(
-        to,
-        fee_est::published_depth_rate(
-            blocks(words, 0),
-            share(words, 1),
-            rate(words, 2),
-            rate(words, 4),
-            rate(words, 6),
-            rate(words, 8),
-        ),
+fn published(mut words: Words) -> Rate {
+    fee_est::published_depth_rate(
+        words.u32(),
+        words.f64(),
+        rate(&mut words),
+        rate(&mut words),
+        rate(&mut words),
+        rate(&mut words),
     )
 }
 
-fn line<W: Write>(to: &mut W, words: &[u64]) -> io::Result<()> {
-    put::only(
-        to,
-        fee_est::lerp_sat_kvb(
-            blocks(words, 0),
-            word_at(words, 1),
-            blocks(words, 2),
-            word_at(words, 3),
-            blocks(words, 4),
-        ),
+fn lerp(mut words: Words) -> u64 {
+    fee_est::lerp_sat_kvb(
+        words.u32(),
+        words.u64(),
+        words.u32(),
+        words.u64(),
+        words.u32(),
     )
 }
 
-fn of_lists<W: Write>(to: &mut W, name: &[u8], words: &[u64]) -> io::Result<bool> {
-    match name {
-        b"published_depth_rate" => published(to, words)?,
-        b"lerp_sat_kvb" => line(to, words)?,
-        b"enforce_monotone_desc" => monotone(to, words)?,
-        b"hold_defined_then_monotone" => hold(to, words)?,
-        b"published_depth_rates" => publish(to, words)?,
-        b"fee_at_target_sat_kvb" => lookup(to, words)?,
-        _ => return Ok(false),
+fn answer<W: Write>(to: &mut W, question: Question) -> io::Result<()> {
+    let mut words = question.words;
+    match question.name {
+        b"blend_weight" => put::float(to, fee_est::blend_weight(words.u32())),
+        b"flow_for_depth" => put_rate(to, of_depth(fee_est::flow_for_depth, words)),
+        b"blend_sat_kvb" => put_rate(to, of_depth(fee_est::blend_sat_kvb, words)),
+        b"warmup_blend" => put_rate(to, warmup(words)),
+        b"depth_rate_sat_kvb" => put_rate(to, depth_rate(words)),
+        b"published_depth_rate" => put_rate(to, published(words)),
+        b"lerp_sat_kvb" => put::only(to, lerp(words)),
+        b"enforce_monotone_desc" => monotone(to, words),
+        b"hold_defined_then_monotone" => hold(to, words),
+        b"published_depth_rates" => publish(to, words),
+        b"fee_at_target_sat_kvb" => put_answer(to, lookup(words)),
+        _ => put::unknown(to),
     }
-    Ok(true)
-}
-
-fn answer<W: Write>(to: &mut W, line: &[u8]) -> io::Result<()> {
-    let name = replay_lines::name(line);
-    let mut words = [0u64; 512];
-    replay_lines::words(line, &mut words);
-    if of_depth(to, name, &words)? {
-        return Ok(());
-    }
-    if of_lists(to, name, &words)? {
-        return Ok(());
-    }
-    put::unknown(to)
-}
-
-fn answer_all<W: Write>(to: &mut W, lines: &[u8]) -> io::Result<()> {
-    let mut at: usize = 0;
-    while at < lines.len() {
-        answer(to, replay_lines::line(lines, at))?;
-        at = replay_lines::next_line(lines, at);
-    }
-    Ok(())
 }
 
 fn main(rt: HostRuntime) -> io::Result<()> {
-    let mut lines = [0u8; 65536];
-    let n = replay_lines::read_full(&mut rt.stdin(), &mut lines)?;
-    answer_all(&mut rt.stdout(), &lines[..n])
+    replay_lines::answer_all(&mut rt.stdin(), &mut rt.stdout(), answer)
 }

@@ -5,115 +5,176 @@
 // connected to a history of 2,304 places; it has two targets.
 #![tactic(auto)]
 
-ghost use Rattle.std.specs.Prelude.{◌≤◌};
-
 use rbitcoin_mempool::answer::{CountAnswer, Outcome, Rate};
 use rbitcoin_net::fee_history::{
     BlockAnswer, BlockHash, FeeHistory, HistoricalFeeBlock, HistoryUpdate,
 };
-use replay_lines::digests::mix;
-use replay_lines::{digests, put, word_at};
+use replay_lines::digests::{Hurdles, digest, mix};
+use replay_lines::put;
+use replay_lines::question::Question;
+use replay_lines::words::{Low, Words, at_most, copy, word_at};
 use std::io;
 use std::io::Write;
 
-fn refusal_number(o: Outcome) -> u64 {
-    match o {
+fn refusal_number(outcome: Outcome) -> u64 {
+    match outcome {
         Outcome::Done => 0,
-        Outcome::Refused(refusal) => refusal as u64,
+        Outcome::Refused(number) => number as u64,
     }
 }
 
-fn count_of(a: CountAnswer) -> usize {
-    match a {
+fn count_of(answer: CountAnswer) -> usize {
+    match answer {
         CountAnswer::Count(count) => count,
         CountAnswer::Refused(_) => 0,
     }
 }
 
-fn block_digest(digest: u64, b: HistoricalFeeBlock) -> u64 {
-    let rate = b.p10_sat_kvb;
-    match rate {
-        Rate::There(rate) => mix(mix(mix(digest, 2), rate), b.txstat_bytes),
-        Rate::Missing => mix(mix(digest, 1), b.txstat_bytes),
-    }
+fn mix_block(digest: u64, block: HistoricalFeeBlock) -> u64 {
+    let digest = match block.p10_sat_kvb {
+        Rate::There(rate) => mix(mix(digest, 2), rate),
+        Rate::Missing => mix(digest, 1),
+    };
+    mix(digest, block.txstat_bytes)
 }
 
-fn found(digest: u64, a: BlockAnswer) -> u64 {
-    match a {
-        BlockAnswer::Held(block) => block_digest(digest, block),
+fn mix_found(digest: u64, answer: BlockAnswer) -> u64 {
+    match answer {
+        BlockAnswer::Held(block) => mix_block(digest, block),
         BlockAnswer::Nothing => mix(digest, 0),
-        BlockAnswer::Refused(refusal) => mix(digest, 16 + refusal as u64),
+        BlockAnswer::Refused(number) => mix(digest, 16 + number as u64),
     }
 }
 
-// The rate is a word itself, and there if bit 2 of the code is set; the byte count the word's last three
-// decimal digits, or with bit 3 the whole word.
-fn block_of(code: u64, word: u64) -> HistoricalFeeBlock {
-    let mut bytes = word % 1000;
-    if code & 8 == 8 {
-        bytes = word;
-    }
-    let mut rate = Rate::Missing;
-    if code & 4 == 4 {
-        rate = Rate::There(word);
-    }
-    HistoricalFeeBlock {
-        p10_sat_kvb: rate,
-        txstat_bytes: bytes,
+// What a call does, by the last two bits of its code.
+enum Kind {
+    Connect,
+    Preload,
+    Cut,
+}
+
+impl From<u64> for Kind {
+    fn from(code: u64) -> Kind {
+        match code % 4 {
+            0 => Kind::Connect,
+            1 => Kind::Preload,
+            _ => Kind::Cut,
+        }
     }
 }
 
-// There if bit 4 of the code is set: the word's bytes four times, each XOR its place.
-fn hash_of(code: u64, word: u64) -> BlockHash {
-    let mut bytes = [0u8; 32];
-    let mut x = word;
-    let mut i: usize = 0;
-    while i < 32 {
-        bytes[i] = ((x ^ i as u64) % 256) as u8;
-        x = x << 56 | x >> 8;
-        i += 1;
-    }
-    BlockHash {
-        there: code & 16 == 16,
-        bytes,
-    }
-}
-
-fn height_of(code: u64) -> u32 {
-    (code / 4294967296) as u32
-}
-
-// A connect, a preload or a cut.
-fn called(
-    s: FeeHistory,
+// A call on a history, as two words say it.
+#[derive(Clone, Copy)]
+struct Call {
     code: u64,
     word: u64,
-    heights: &mut [u32; 2304],
-    marks: &mut [u8; 2304],
-    rates: &mut [u64; 2304],
-    sizes: &mut [u64; 2304],
-    kept: &mut [u32; 144],
-    bytes: &mut [u8; 4608],
-    hurdles: &mut [u64; 2304],
-    befores: &mut [f64; 4608],
-    aheads: &mut [u64; 4608],
-) -> HistoryUpdate {
-    let height = height_of(code);
-    let block = block_of(code, word);
-    let hash = hash_of(code, word);
-    if code % 4 == 0 {
-        return s.insert(
-            height, block, hash, heights, marks, rates, sizes, kept, bytes, hurdles, befores,
-            aheads,
-        );
+}
+
+impl Call {
+    fn height(self) -> u32 {
+        (self.code >> 32) as u32
     }
-    if code % 4 == 1 {
-        return s.insert_if_absent(
-            height, block, hash, heights, marks, rates, sizes, kept, bytes, hurdles, befores,
-            aheads,
-        );
+
+    // The rate is the word itself, and there if bit 2 of the code is set; the byte count the word's last three
+    // decimal digits, or with bit 3 the whole word.
+    fn block(self) -> HistoricalFeeBlock {
+        HistoricalFeeBlock {
+            p10_sat_kvb: if self.code & 4 == 4 {
+                Rate::There(self.word)
+            } else {
+                Rate::Missing
+            },
+            txstat_bytes: if self.code & 8 == 8 {
+                self.word
+            } else {
+                self.word % 1000
+            },
+        }
     }
-    s.truncate_above(height, heights, marks, rates, sizes, kept, bytes)
+
+    // There if bit 4 of the code is set: the word's bytes four times, each XOR its place.
+    fn hash(self) -> BlockHash {
+        let mut bytes = [0u8; 32];
+        let mut x = self.word;
+        for (i, byte) in bytes.iter_mut().enumerate() {
+            *byte = u8::low(x ^ i as u64);
+            x = x.rotate_right(8);
+        }
+        BlockHash {
+            there: self.code & 16 == 16,
+            bytes,
+        }
+    }
+}
+
+// The memory of a history of up to 2,304 places and two targets.
+#[derive(Drop)]
+struct Memory {
+    heights: [u32; 2304],
+    marks: [u8; 2304],
+    rates: [u64; 2304],
+    sizes: [u64; 2304],
+    kept: [u32; 144],
+    bytes: [u8; 4608],
+    hurdles: [u64; 2304],
+    befores: [f64; 4608],
+    aheads: [u64; 4608],
+}
+
+fn zeros() -> Memory {
+    Memory {
+        heights: [0; 2304],
+        marks: [0; 2304],
+        rates: [0; 2304],
+        sizes: [0; 2304],
+        kept: [0; 144],
+        bytes: [0; 4608],
+        hurdles: [0; 2304],
+        befores: [0.0; 4608],
+        aheads: [0; 4608],
+    }
+}
+
+fn updated(s: FeeHistory, call: Call, m: &mut Memory) -> HistoryUpdate {
+    match Kind::from(call.code) {
+        Kind::Connect => s.insert(
+            call.height(),
+            call.block(),
+            call.hash(),
+            &mut m.heights,
+            &mut m.marks,
+            &mut m.rates,
+            &mut m.sizes,
+            &mut m.kept,
+            &mut m.bytes,
+            &mut m.hurdles,
+            &mut m.befores,
+            &mut m.aheads,
+        ),
+        Kind::Preload => s.insert_if_absent(
+            call.height(),
+            call.block(),
+            call.hash(),
+            &mut m.heights,
+            &mut m.marks,
+            &mut m.rates,
+            &mut m.sizes,
+            &mut m.kept,
+            &mut m.bytes,
+            &mut m.hurdles,
+            &mut m.befores,
+            &mut m.aheads,
+        ),
+        Kind::Cut => s.truncate_above(
+            call.height(),
+            &mut m.heights,
+            &mut m.marks,
+            &mut m.rates,
+            &mut m.sizes,
+            &mut m.kept,
+            &mut m.bytes,
+        ),
+    }
 }
 
 // The history after some calls, and the digest of their refusals and of the block that each left at its
@@ -124,191 +185,103 @@ struct Replayed {
     digest: u64,
 }
 
-// The calls, and the block that each left at its height.
-fn call_all(
-    start: Replayed,
-    calls: &[u64],
-    heights: &mut [u32; 2304],
-    marks: &mut [u8; 2304],
-    rates: &mut [u64; 2304],
-    sizes: &mut [u64; 2304],
-    kept: &mut [u32; 144],
-    bytes: &mut [u8; 4608],
-    hurdles: &mut [u64; 2304],
-    befores: &mut [f64; 4608],
-    aheads: &mut [u64; 4608],
-) -> Replayed {
-    let mut state = start.state;
-    let mut digest = start.digest;
-    let mut i: usize = 0;
-    while i < calls.len() {
-        let code = calls[i];
-        let word = word_at(calls, i + 1);
-        i += 2;
-        let r = called(
-            state, code, word, heights, marks, rates, sizes, kept, bytes, hurdles, befores, aheads,
-        );
-        let outcome = r.outcome;
-        state = r.state;
-        let held = state.get(height_of(code), heights, marks, rates, sizes);
-        digest = found(mix(digest, refusal_number(outcome)), held);
+fn opened(budget: u64, targets: &[u32], capacity: usize, m: &Memory) -> Replayed {
+    let r = FeeHistory::new(
+        budget, targets, capacity, &m.heights, &m.marks, &m.rates, &m.sizes, &m.kept, &m.bytes,
+        &m.hurdles, &m.befores, &m.aheads,
+    );
+    Replayed {
+        state: r.state,
+        digest: refusal_number(r.outcome),
     }
-    Replayed { state, digest }
 }
 
-fn mix_row(digest: u64, height: u32, mark: u8) -> u64 {
-    mix(mix(digest, height as u64), mark as u64)
+fn called(start: Replayed, call: Call, m: &mut Memory) -> Replayed {
+    let r = updated(start.state, call, m);
+    let s = r.state;
+    let held = s.get(call.height(), &m.heights, &m.marks, &m.rates, &m.sizes);
+    Replayed {
+        state: s,
+        digest: mix_found(mix(start.digest, refusal_number(r.outcome)), held),
+    }
 }
 
 // Rows that were written.
 fn rows_digest(n: usize, heights: &[u32], marks: &[u8], rates: &[u64], sizes: &[u64]) -> u64 {
     let mut digest: u64 = 0;
-    let mut i: usize = 0;
-    while i < n {
-        if i < heights.len() && i < marks.len() {
-            digest = mix_row(digest, heights[i], marks[i]);
-        }
-        if i < rates.len() && i < sizes.len() {
-            digest = mix(mix(digest, rates[i]), sizes[i]);
-        }
-        i += 1;
+    let places = heights.iter().zip(marks);
+    let blocks = rates.iter().zip(sizes);
+    for ((height, mark), (rate, size)) in places.zip(blocks).take(n) {
+        digest = mix(mix(digest, u64::from(*height)), u64::from(*mark));
+        digest = mix(mix(digest, *rate), *size);
     }
     digest
 }
 
 // The rows, as `entries` writes them: their number and a digest.
-fn put_entries<W: Write>(
-    to: &mut W,
-    s: FeeHistory,
-    heights: &[u32],
-    marks: &[u8],
-    rates: &[u64],
-    sizes: &[u64],
-) -> io::Result<()> {
-    let mut out_heights = [0u32; 26];
-    let mut out_marks = [0u8; 26];
-    let mut out_rates = [0u64; 26];
-    let mut out_sizes = [0u64; 26];
+fn put_entries<W: Write>(to: &mut W, s: FeeHistory, m: &Memory) -> io::Result<()> {
+    let mut heights = [0u32; 26];
+    let mut marks = [0u8; 26];
+    let mut rates = [0u64; 26];
+    let mut sizes = [0u64; 26];
     let n = count_of(s.entries(
-        heights,
-        marks,
-        rates,
-        sizes,
-        &mut out_heights,
-        &mut out_marks,
-        &mut out_rates,
-        &mut out_sizes,
+        &m.heights,
+        &m.marks,
+        &m.rates,
+        &m.sizes,
+        &mut heights,
+        &mut marks,
+        &mut rates,
+        &mut sizes,
     ));
     put::next(to, n as u64)?;
-    put::next(
-        to,
-        rows_digest(n, &out_heights, &out_marks, &out_rates, &out_sizes),
-    )
+    put::next(to, rows_digest(n, &heights, &marks, &rates, &sizes))
 }
 
 // The hashes, as `recent_hashes` writes them into lists of zeros: their number and a digest.
-fn put_hashes<W: Write>(
-    to: &mut W,
-    s: FeeHistory,
-    heights: &[u32],
-    bytes: &[u8],
-) -> io::Result<()> {
-    let mut out_heights = [0u32; 144];
-    let mut out_bytes = [0u8; 4608];
-    let n = count_of(s.recent_hashes(heights, bytes, &mut out_heights, &mut out_bytes));
+fn put_hashes<W: Write>(to: &mut W, s: FeeHistory, m: &Memory) -> io::Result<()> {
+    let mut heights = [0u32; 144];
+    let mut bytes = [0u8; 4608];
+    let n = count_of(s.recent_hashes(&m.kept, &m.bytes, &mut heights, &mut bytes));
     put::next(to, n as u64)?;
-    put::next(
-        to,
-        digests::digest_u8(digests::digest_u32(0, &out_heights), &out_bytes),
-    )
+    put::next(to, digest(digest(0, &heights), &bytes))
 }
 
 // The total, the number of hurdles and whether they are stale.
 fn put_state<W: Write>(to: &mut W, s: FeeHistory) -> io::Result<()> {
-    let analog = s.analog;
     put::next(to, s.txstat_bytes)?;
-    put::next(to, analog.count as u64)?;
-    if s.analog_stale {
-        put::next(to, 1)?;
-    } else {
-        put::next(to, 0)?;
-    }
-    Ok(())
+    put::next(to, s.analog.count as u64)?;
+    put::next(to, u64::from(s.analog_stale))
 }
 
-fn put_replayed<W: Write>(
-    to: &mut W,
-    after: Replayed,
-    heights: &[u32; 2304],
-    marks: &[u8; 2304],
-    rates: &[u64; 2304],
-    sizes: &[u64; 2304],
-    kept: &[u32; 144],
-    bytes: &[u8; 4608],
-) -> io::Result<()> {
-    let s = after.state;
+// A budget, targets, the number of calls, and the calls.
+fn calls<W: Write>(to: &mut W, mut words: Words) -> io::Result<()> {
+    let budget = words.u64();
+    let mut targets = [0u32; 17];
+    let n = words.copy_list(&mut targets);
+    let count = words.count();
+    let mut m = zeros();
+    let mut after = opened(budget, &targets[..n], 24, &m);
+    for call in words.part(2 * count).chunks(2) {
+        let code = word_at(call, 0);
+        let word = word_at(call, 1);
+        after = called(after, Call { code, word }, &mut m);
+    }
     put::word(to, after.digest)?;
-    put_state(to, s)?;
-    put_entries(to, s, heights, marks, rates, sizes)?;
-    put_hashes(to, s, kept, bytes)?;
+    put_state(to, after.state)?;
+    put_entries(to, after.state, &m)?;
+    put_hashes(to, after.state, &m)?;
     put::newline(to)
 }
 
-// How many blocks are connected.
-fn connected(words: &[u64]) -> usize
-    ensures { result ≤ 2304 }
-{
-    let n = word_at(words, 5);
-    if n < 2304 {
-        return n as usize;
-    }
-    2304
-}
-
-fn put_call(out: &mut [u64; 4610], i: usize, code: u64, word: u64) {
-    if i < 2305 {
-        out[2 * i] = code;
-        out[2 * i + 1] = word;
-    }
-}
-
-// The calls that connect every second height, from 0 on; where word 8 is not 0 also a preload of height 1001,
-// which makes the windows stale where it lies between held heights and there is room.
-fn generated(words: &[u64], out: &mut [u64; 4610]) -> usize {
-    let n = connected(words);
-    let mut x = word_at(words, 0);
-    let mut i: usize = 0;
-    while i < n {
-        x = digests::turned(x);
-        let word = digests::hurdle(words, i, (n - i) as u64, x);
-        put_call(out, i, (2 * i as u64) << 32 | 4, word);
-        i += 1;
-    }
-    if word_at(words, 8) == 0 {
-        return 2 * n;
-    }
-    put_call(out, n, 1001 << 32 | 5, word_at(words, 1));
-    2 * n + 2
-}
-
-fn put_mark<W: Write>(to: &mut W, mark: u8) -> io::Result<()> {
-    put::next(to, mark as u64)
-}
-
 // The refusal, and the answer's lists whole.
-fn put_answer<W: Write>(
-    to: &mut W,
-    refusal: u64,
-    numbers: [u64; 3],
-    marks: [u8; 3],
-) -> io::Result<()> {
+fn put_answer<W: Write>(to: &mut W, refusal: u64, numbers: &[u64], marks: &[u8]) -> io::Result<()> {
     put::word(to, refusal)?;
-    put_mark(to, marks[0])?;
-    put::next(to, numbers[0])?;
-    put_mark(to, marks[1])?;
-    put::next(to, numbers[1])?;
-    put_mark(to, marks[2])?;
-    put::next(to, numbers[2])
+    for (mark, number) in marks.iter().zip(numbers) {
+        put::next(to, u64::from(*mark))?;
+        put::next(to, *number)?;
+    }
+    Ok(())
 }
 
 // The places are the scratch list's.
@@ -316,168 +289,61 @@ fn put_rates<W: Write>(
     to: &mut W,
     s: FeeHistory,
     places: u64,
-    heights: &[u32; 2304],
-    marks: &[u8; 2304],
-    rates: &[u64; 2304],
-    sizes: &[u64; 2304],
-    hurdles: &mut [u64; 2304],
-    befores: &mut [f64; 4608],
-    aheads: &mut [u64; 4608],
+    m: &mut Memory,
 ) -> io::Result<FeeHistory> {
     let mut scratch = [0u64; 2304];
-    let z = replay_lines::at_most(places, &scratch);
-    let mut out_numbers = [77u64; 3];
-    let mut out_marks = [77u8; 3];
+    let z = at_most(places, &scratch);
+    let mut numbers = [77u64; 3];
+    let mut marks = [77u8; 3];
     let r = s.rates(
-        heights,
-        marks,
-        rates,
-        sizes,
-        hurdles,
-        befores,
-        aheads,
+        &m.heights,
+        &m.marks,
+        &m.rates,
+        &m.sizes,
+        &mut m.hurdles,
+        &mut m.befores,
+        &mut m.aheads,
         &mut scratch[..z],
-        &mut out_numbers,
-        &mut out_marks,
+        &mut numbers,
+        &mut marks,
     );
-    let outcome = r.outcome;
-    put_answer(to, refusal_number(outcome), out_numbers, out_marks)?;
+    put_answer(to, refusal_number(r.outcome), &numbers, &marks)?;
     Ok(r.state)
 }
 
-// Fresh rates, then kept ones.
-fn put_both<W: Write>(
-    to: &mut W,
-    s: FeeHistory,
-    places: u64,
-    heights: &[u32; 2304],
-    marks: &[u8; 2304],
-    rates: &[u64; 2304],
-    sizes: &[u64; 2304],
-    hurdles: &mut [u64; 2304],
-    befores: &mut [f64; 4608],
-    aheads: &mut [u64; 4608],
-) -> io::Result<()> {
-    let fresh = put_rates(
-        to, s, places, heights, marks, rates, sizes, hurdles, befores, aheads,
-    )?;
+// How the blocks are worked out that are connected at every second height, from 0 on; two targets; where the next word
+// is not 0 also a preload of height 1001, which makes the windows stale where it lies between held heights and there is
+// room; the places of a scratch list. Fresh rates, then kept ones.
+fn rates<W: Write>(to: &mut W, mut words: Words) -> io::Result<()> {
+    let shape = words.part(6);
+    let mut targets = [0u32; 2];
+    copy(words.part(2), &mut targets);
+    let mut m = zeros();
+    let mut after = opened(u64::MAX, &targets, 2304, &m);
+    for (i, word) in Hurdles::new(shape).enumerate() {
+        let code = (i as u64) << 33 | 4;
+        after = called(after, Call { code, word }, &mut m);
+    }
+    if words.u64() != 0 {
+        let code = 1001 << 32 | 5;
+        let word = word_at(shape, 1);
+        after = called(after, Call { code, word }, &mut m);
+    }
+    let places = words.u64();
+    let fresh = put_rates(to, after.state, places, &mut m)?;
     put::space(to)?;
-    put_rates(
-        to, fresh, places, heights, marks, rates, sizes, hurdles, befores, aheads,
-    )?;
+    put_rates(to, fresh, places, &mut m)?;
     put::newline(to)
 }
 
-// Opens a history over memory of its own and calls it. A question of rates has places of a scratch list.
-fn replay<W: Write>(
-    to: &mut W,
-    budget: u64,
-    targets: &[u32],
-    capacity: usize,
-    calls: &[u64],
-    rated: bool,
-    places: u64,
-) -> io::Result<()> {
-    let mut heights = [0u32; 2304];
-    let mut marks = [0u8; 2304];
-    let mut rates = [0u64; 2304];
-    let mut sizes = [0u64; 2304];
-    let mut kept = [0u32; 144];
-    let mut bytes = [0u8; 4608];
-    let mut hurdles = [0u64; 2304];
-    let mut befores = [0.0; 4608];
-    let mut aheads = [0u64; 4608];
-    let r = FeeHistory::new(
-        budget, targets, capacity, &heights, &marks, &rates, &sizes, &kept, &bytes, &hurdles,
-        &befores, &aheads,
-    );
-    let outcome = r.outcome;
-    let state = r.state;
-    let digest = refusal_number(outcome);
-    let after = call_all(
-        Replayed { state, digest },
-        calls,
-        &mut heights,
-        &mut marks,
-        &mut rates,
-        &mut sizes,
-        &mut kept,
-        &mut bytes,
-        &mut hurdles,
-        &mut befores,
-        &mut aheads,
-    );
-    if rated {
-        let s = after.state;
-        put_both(
-            to,
-            s,
-            places,
-            &heights,
-            &marks,
-            &rates,
-            &sizes,
-            &mut hurdles,
-            &mut befores,
-            &mut aheads,
-        )?;
-        return Ok(());
-    }
-    put_replayed(to, after, &heights, &marks, &rates, &sizes, &kept, &bytes)
-}
-
-fn first(calls: &[u64; 4610], n: usize) -> &[u64] {
-    replay_lines::part(calls, 0, n)
-}
-
-fn calls<W: Write>(to: &mut W, words: &[u64]) -> io::Result<()> {
-    let mut targets = [0u32; 17];
-    let n = replay_lines::copy_u32(replay_lines::list(words, 1), &mut targets);
-    let targets = &targets[..n];
-    let from = replay_lines::after_list(words, 1);
-    let k = replay_lines::at_most(word_at(words, from), words);
-    let calls = replay_lines::part(words, from + 1, 2 * k);
-    replay(to, word_at(words, 0), targets, 24, calls, false, 0)
-}
-
-fn rates<W: Write>(to: &mut W, words: &[u64]) -> io::Result<()> {
-    let mut targets = [0u32; 2];
-    replay_lines::copy_u32(replay_lines::part(words, 6, 2), &mut targets);
-    let mut calls = [0u64; 4610];
-    let n = generated(words, &mut calls);
-    replay(
-        to,
-        u64::MAX,
-        &targets,
-        2304,
-        first(&calls, n),
-        true,
-        word_at(words, 9),
-    )
-}
-
-fn answer<W: Write>(to: &mut W, line: &[u8]) -> io::Result<()> {
-    let name = replay_lines::name(line);
-    let mut words = [0u64; 512];
-    replay_lines::words(line, &mut words);
-    match name {
-        b"calls" => calls(to, &words),
-        b"rates" => rates(to, &words),
+fn answer<W: Write>(to: &mut W, question: Question) -> io::Result<()> {
+    match question.name {
+        b"calls" => calls(to, question.words),
+        b"rates" => rates(to, question.words),
         _ => put::unknown(to),
     }
 }
 
-fn answer_all<W: Write>(to: &mut W, lines: &[u8]) -> io::Result<()> {
-    let mut at: usize = 0;
-    while at < lines.len() {
-        answer(to, replay_lines::line(lines, at))?;
-        at = replay_lines::next_line(lines, at);
-    }
-    Ok(())
-}
-
 fn main(rt: HostRuntime) -> io::Result<()> {
-    let mut lines = [0u8; 65536];
-    let n = replay_lines::read_full(&mut rt.stdin(), &mut lines)?;
-    answer_all(&mut rt.stdout(), &lines[..n])
+    replay_lines::answer_all(&mut rt.stdin(), &mut rt.stdout(), answer)
 }

@@ -6,77 +6,55 @@
 #![tactic(auto)]
 
 use rbitcoin_mempool::fee_flow::FeeFlowMeter;
-use replay_lines::{bits_of, digests, put, word_at};
+use replay_lines::digests::{digest, mix};
+use replay_lines::question::Question;
+use replay_lines::words::Words;
+use replay_lines::{bits_of, put};
 use std::io;
 use std::io::Write;
 
 // The bit patterns of the rates.
-fn digest(m: FeeFlowMeter) -> u64 {
-    let mut d: u64 = 0;
-    let mut i: usize = 0;
-    while i < 402 {
-        let x = m.admit_wu_s[i];
-        d = digests::mix(d, bits_of(x));
-        i += 1;
-    }
-    d
-}
-
-fn whole_digest(rates: [u64; 402]) -> u64 {
-    digests::digest_u64(0, &rates)
+fn rates_digest(rates: &[f64]) -> u64 {
+    rates.iter().fold(0, |d, rate| mix(d, bits_of(*rate)))
 }
 
 fn put_meter<W: Write>(to: &mut W, m: FeeFlowMeter) -> io::Result<()> {
     put::word(to, bits_of(m.full()))?;
     put::next(to, bits_of(m.admitted_wu))?;
     put::next(to, m.last)?;
-    put::next(to, digest(m))?;
-    put::next(to, whole_digest(m.rates()))?;
+    put::next(to, rates_digest(&m.admit_wu_s))?;
+    put::next(to, digest(0, &m.rates()))?;
     put::newline(to)
 }
 
-// A read or an admission, four words.
-fn called(m: FeeFlowMeter, call: &[u64]) -> FeeFlowMeter {
-    if word_at(call, 0) < 2 {
-        return m.decay_to(word_at(call, 3));
+// A read or an admission.
+fn called(m: FeeFlowMeter, words: &mut Words) -> FeeFlowMeter {
+    let kind = words.u64();
+    let weight = words.u64();
+    let rate = words.u64();
+    let clock = words.u64();
+    match kind {
+        0 | 1 => m.decay_to(clock),
+        _ => m.admit(weight, rate, clock),
     }
-    m.admit(word_at(call, 1), word_at(call, 2), word_at(call, 3))
 }
 
 // The clock, the number of calls, and the calls.
-fn replay(words: &[u64]) -> FeeFlowMeter {
-    let mut m = FeeFlowMeter::new(word_at(words, 0));
-    let n = replay_lines::at_most(word_at(words, 1), words);
-    let mut i: usize = 0;
-    while i < n {
-        m = called(m, replay_lines::part(words, 2 + 4 * i, 4));
-        i += 1;
+fn replay(mut words: Words) -> FeeFlowMeter {
+    let mut m = FeeFlowMeter::new(words.u64());
+    for _ in 0..words.count() {
+        m = called(m, &mut words);
     }
     m
 }
 
-fn answer<W: Write>(to: &mut W, line: &[u8]) -> io::Result<()> {
-    match replay_lines::name(line) {
-        b"meter" => {
-            let mut words = [0u64; 512];
-            replay_lines::words(line, &mut words);
-            put_meter(to, replay(&words))
-        }
+fn answer<W: Write>(to: &mut W, question: Question) -> io::Result<()> {
+    match question.name {
+        b"meter" => put_meter(to, replay(question.words)),
         _ => put::unknown(to),
     }
 }
 
-fn answer_all<W: Write>(to: &mut W, lines: &[u8]) -> io::Result<()> {
-    let mut at: usize = 0;
-    while at < lines.len() {
-        answer(to, replay_lines::line(lines, at))?;
-        at = replay_lines::next_line(lines, at);
-    }
-    Ok(())
-}
-
 fn main(rt: HostRuntime) -> io::Result<()> {
-    let mut lines = [0u8; 65536];
-    let n = replay_lines::read_full(&mut rt.stdin(), &mut lines)?;
-    answer_all(&mut rt.stdout(), &lines[..n])
+    replay_lines::answer_all(&mut rt.stdin(), &mut rt.stdout(), answer)
 }

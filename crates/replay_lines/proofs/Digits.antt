@@ -1,7 +1,7 @@
--- A hexadecimal digit is below 16, and what lies past the end of a list counts as 0. Assumes nothing.
-use Rattle.std.proofs.Common.{◌≡◌, ℕ, ◌-◌, ◌<◌, ◌≤◌, Bool, true, false, cond, ltb, List, length, get_or, refl, arith, lit<, ltb-true}
-use lib.ListN.{get_or-eq_default}
-use Rattle.replay_lines.specs.Hex.{hex_digit}
+-- A hexadecimal digit is below 16, and digits are read alike from a place and from what starts there. Assumes nothing.
+use Rattle.std.proofs.Common.{◌≡◌, ℕ, ◌-◌, ◌<◌, Bool, true, false, cond, ltb, List, drop, zero, suc, zero-add, refl, arith, lit<, ltb-true}
+use Rattle.std.proofs.lemmas.List.{get_or-drop}
+use Rattle.replay_lines.specs.Hex.{hex_digit, hex_of}
 
 by : (P : ℕ → Type 0) (t : Bool) (a b : ℕ) → (t ≡ true → P a) → (t ≡ false → P b) → P (cond t a b)
 by P true a b h k = h refl
@@ -15,6 +15,8 @@ hex-small b =
     (λ h1. by (λ (n : ℕ). n < 16) (ltb b 97) 0 _ (λ h. lit< tt)
     (λ h2. by (λ (n : ℕ). n < 16) (ltb b 103) (b - 87) 0 (λ h. omega (arith, ltb-true b 103 h)) (λ h. lit< tt))))
 
-pub hex-past : (s : List ℕ) (i : ℕ) → length s ≤ i → 0 ≡ hex_digit (get_or s i 0)
-unfolding hex_digit
-hex-past s i h = rw (get_or-eq_default s 0 h)
+-- what stands from a place on spells there what it does from its own start
+pub hex-drop : (s : List ℕ) (at n : ℕ) → hex_of (drop at s) 0 n ≡ hex_of s at n
+unfolding hex_of
+hex-drop s at zero = refl
+hex-drop s at (suc n) = rw (hex-drop s at n, zero-add, get_or-drop at s n 0)

@@ -2,3 +2,5 @@
 pub mod Digits
 pub mod Lines
 pub mod Lists
+pub mod Filling
+pub mod Replaying

@@ -1,49 +1,46 @@
 -- Parts of lists, a list's elements put over another's one by one, a line's words, and digests. Assumes nothing.
-use Rattle.std.proofs.Common.{◌≡◌, ℕ, zero, suc, ◌+◌, ◌-◌, ◌*◌, ◌<◌, ◌≤◌, min, List, [], ◌∷◌, map, length, get_or, take, drop, set, sym, refl, ap, ◌∙◌, le_of_suc-le-suc, not-suc-le-zero, add-one, arith, length-drop, take_all, drop-cons}
+use Rattle.std.proofs.Common.{◌≡◌, ℕ, zero, suc, ◌+◌, ◌*◌, ◌<◌, ◌≤◌, min, List, [], ◌∷◌, map, length, get_or, take, drop, set, sym, refl, ap, ◌∙◌, le_of_suc-le-suc, not-suc-le-zero, add-one, arith, drop-cons}
 use native.Mathlib.Numerals.{unary_clauses}
 use lib.ListN.{length-map, get_or-map}
-use lib.Seq.{take-nil, drop-length}
+use lib.Seq.{take-nil}
 use Rattle.replay_lines.specs.Hex.{hex_of}
 use Rattle.replay_lines.specs.Lines.{words_of}
 use Rattle.replay_lines.specs.Digest.{mixed, mixed_all}
 use Rattle.replay_lines.specs.Lists.{over}
 use Rattle.replay_lines.proofs.Lines.{past}
 
--- from past the end on there is nothing, and what is left has all of what is left
-pub none_left : (l : List ℕ) (k from n : ℕ) → length l ≤ from → take k (drop (length l) l) ≡ take n (drop from l)
-none_left l k from n h = ap (λ (m : List ℕ). take k m) (drop-length l) ∙ take-nil k ∙ sym (ap (λ (m : List ℕ). take n m) (past l from h) ∙ take-nil n)
-
-pub all_left : (l : List ℕ) (from n : ℕ) → length l - from ≤ n → take (length l - from) (drop from l) ≡ take n (drop from l)
-all_left l from n h = take_all (length l - from) (drop from l) (simp length-drop (omega arith)) ∙ sym (take_all n (drop from l) (simp length-drop (omega arith)))
-
-pub over-one : (xs out : List ℕ) (i : ℕ) → i < length xs → i < length out → set (over (take i xs) out) i (get_or xs i 0) ≡ over (take (suc i) xs) out
+pub over-one : {A : Type 0} (d : A) (xs out : List A) (i : ℕ) → i < length xs → i < length out → set (over (take i xs) out) i (get_or xs i d) ≡ over (take (suc i) xs) out
 unfolding over
-over-one [] out i h k = absurd (not-suc-le-zero h)
-over-one (x ∷ xs) [] i h k = absurd (not-suc-le-zero k)
-over-one (x ∷ xs) (y ∷ out) zero h k = refl
-over-one (x ∷ xs) (y ∷ out) (suc i) h k = ap (λ (l : List ℕ). x ∷ l) (over-one xs out i (le_of_suc-le-suc h) (le_of_suc-le-suc k))
+over-one d [] out i h k = absurd (not-suc-le-zero h)
+over-one d (x ∷ xs) [] i h k = absurd (not-suc-le-zero k)
+over-one d (x ∷ xs) (y ∷ out) zero h k = refl
+over-one {A} d (x ∷ xs) (y ∷ out) (suc i) h k = ap (λ (l : List A). x ∷ l) (over-one d xs out i (le_of_suc-le-suc h) (le_of_suc-le-suc k))
 
-pub over_all : (xs out : List ℕ) → over (take (min (length xs) (length out)) xs) out ≡ over xs out
+pub over_all : {A : Type 0} (xs out : List A) → over (take (min (length xs) (length out)) xs) out ≡ over xs out
 unfolding over
-over_all [] out = rw (take-nil {A = ℕ} (min 0 (length out)))
+over_all {A} [] out = rw (take-nil {A = A} (min 0 (length out)))
 over_all (x ∷ xs) [] = simp unary_clauses
-over_all (x ∷ xs) (y ∷ out) = simp unary_clauses (ap (λ (l : List ℕ). x ∷ l) (over_all xs out))
+over_all {A} (x ∷ xs) (y ∷ out) = simp unary_clauses (ap (λ (l : List A). x ∷ l) (over_all xs out))
 
 -- a list's elements by f put over another's: one more, and all
-module _ (f : ℕ → ℕ) (xs out ys : List ℕ) (i : ℕ) (e : ys ≡ over (take i (map f xs)) out) where
-  pub put_one : f 0 ≡ 0 → i < length xs → i < length out → set ys i (f (get_or xs i 0)) ≡ over (take (i + 1) (map f xs)) out
-  put_one z h k = rw (add-one, e, ← get_or-map f xs i 0, z) (over-one (map f xs) out i (omega (arith, length-map xs f)) k)
+module _ {A : Type 0} (f : ℕ → A) (xs : List ℕ) (out ys : List A) (i : ℕ) (e : ys ≡ over (take i (map f xs)) out) where
+  pub put_one : i < length xs → i < length out → set ys i (f (get_or xs i 0)) ≡ over (take (i + 1) (map f xs)) out
+  put_one h k = rw (add-one, e, ← get_or-map f xs i 0) (over-one (f 0) (map f xs) out i (omega (arith, length-map xs f)) k)
 
   pub put_all : i ≡ min (length xs) (length out) → ys ≡ over (map f xs) out
   put_all n = rw (n ∙ ap (λ (l : ℕ). min l (length out)) (sym (length-map xs f))) at e ∙ over_all (map f xs) out
 
-pub mixed_one : (d : ℕ) (ws : List ℕ) (i : ℕ) → i < length ws → mixed_all (mixed d (get_or ws i 0)) (drop (suc i) ws) ≡ mixed_all d (drop i ws)
-unfolding mixed_all
-mixed_one d ws i h = rw (drop-cons ws i 0 h)
+module _ {A : Type 0} (f : A → ℕ) (d : ℕ) (xs : List A) (i : ℕ) where
+  pub mixed_one : (x : A) → i < length xs → x ≡ get_or xs i x → mixed_all (mixed d (f x)) (drop (i + 1) (map f xs)) ≡ mixed_all d (drop i (map f xs))
+  unfolding mixed_all
+  mixed_one x h e =
+      let k : i < length (map f xs) = omega (arith, length-map xs f) in
+      let v : get_or (map f xs) i (f x) ≡ f x = get_or-map f xs i x ∙ ap f (sym e) in
+      rw (add-one, drop-cons (map f xs) i (f x) k, v)
 
-pub mixed_end : (d : ℕ) (ws : List ℕ) (i : ℕ) → length ws ≤ i → mixed_all d (drop i ws) ≡ d
-unfolding mixed_all
-mixed_end d ws i h = rw (past ws i h)
+  pub mixed_end : length xs ≤ i → mixed_all d (drop i (map f xs)) ≡ d
+  unfolding mixed_all
+  mixed_end h = rw (past (map f xs) i (omega (arith, length-map xs f)))
 
 pub words-length : (s : List ℕ) (at n : ℕ) → length (words_of s at n) ≡ n
 unfolding words_of

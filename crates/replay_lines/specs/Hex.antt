@@ -5,7 +5,8 @@ use Rattle.std.specs.Float.Ieee.{ne}
 
 -- 0 to 9 and a to f; any other byte counts as 0
 unfoldable pub hex_digit : ℕ → ℕ
-hex_digit b = cond (nat_lt b 48) 0 (cond (nat_lt b 58) (b - 48) (cond (nat_lt b 97) 0 (cond (nat_lt b 103) (b - 87) 0)))
+hex_digit b =
+    cond (nat_lt b 48) 0 (cond (nat_lt b 58) (b - 48) (cond (nat_lt b 97) 0 (cond (nat_lt b 103) (b - 87) 0)))
 
 -- the number that the n digits from a place on spell, the last 64 bits of it; what lies past the end counts as 0
 unfoldable pub hex_of : List ℕ → ℕ → ℕ → ℕ

@@ -1,60 +1,25 @@
 // Digests of lists, and the numbers of a generator.
-ghost use Rattle.std.specs.Prelude.{◌≡◌};
-ghost use Rattle.replay_lines.specs.Digest.{mixed, mixed_all, turned_of, raised_of, replayed_hurdle};
+ghost use Rattle.std.specs.Prelude.{◌≡◌, ◌-◌};
+ghost use Rattle.std.specs.Iterator.{at_most};
+ghost use Rattle.replay_lines.specs.Digest.{mixed, DigestsTo, turned_of, raised_of, replayed_hurdle};
+ghost use Rattle.replay_lines.specs.Hurdles.{StartsHurdles, GivesHurdle};
 
-use crate::word_at;
+use crate::words::word_at;
 
 // `digest.rotate_left(1) ^ word`.
 pub fn mix(digest: u64, word: u64) -> u64
     ensures { result ≡ mixed digest word }
 {
-    (digest << 1 | digest >> 63) ^ word
+    digest.rotate_left(1) ^ word
 }
 
-pub fn digest_u64(start: u64, list: &[u64]) -> u64
-    ensures { result ≡ mixed_all start list.now }
+// The elements, mixed in one after the other.
+pub fn digest<T: Into<u64> + Copy>(start: u64, list: &[T]) -> u64
+    ensures { DigestsTo T.converts start list.now result }
 {
     let mut digest = start;
-    let mut i: usize = 0;
-    while i < list.len() {
-        digest = mix(digest, list[i]);
-        i += 1;
-    }
-    digest
-}
-
-fn mix_u32(digest: u64, word: u32) -> u64
-    ensures { result ≡ mixed digest word }
-{
-    mix(digest, word as u64)
-}
-
-pub fn digest_u32(start: u64, list: &[u32]) -> u64
-    ensures { result ≡ mixed_all start list.now }
-{
-    let mut digest = start;
-    let mut i: usize = 0;
-    while i < list.len() {
-        digest = mix_u32(digest, list[i]);
-        i += 1;
-    }
-    digest
-}
-
-fn mix_u8(digest: u64, word: u8) -> u64
-    ensures { result ≡ mixed digest word }
-{
-    mix(digest, word as u64)
-}
-
-pub fn digest_u8(start: u64, list: &[u8]) -> u64
-    ensures { result ≡ mixed_all start list.now }
-{
-    let mut digest = start;
-    let mut i: usize = 0;
-    while i < list.len() {
-        digest = mix_u8(digest, list[i]);
-        i += 1;
+    for word in list {
+        digest = mix(digest, (*word).into());
     }
     digest
 }
@@ -72,18 +37,65 @@ pub fn turned(x: u64) -> u64
 fn raised(words: &[u64], place: usize, x: u64) -> u64
     ensures { result ≡ raised_of words.now place x }
 {
+    let level = word_at(words, 1);
     if place % 3 == 0 {
-        return std::num::wrapping_add_u64(word_at(words, 1), x & word_at(words, 2));
+        level.wrapping_add(x & word_at(words, 2))
+    } else {
+        level
     }
-    word_at(words, 1)
 }
 
-// The hurdle at a place. `left` counts it and those after it; where that is at most word 3, word 4 is added, modulo 2^64.
+// The hurdle at a place. `left` counts it and those after it; where that is at most word 3, word 4 is added, modulo
+// 2^64.
 pub fn hurdle(words: &[u64], place: usize, left: u64, x: u64) -> u64
     ensures { result ≡ replayed_hurdle words.now place left x }
 {
+    let hurdle = raised(words, place, x);
     if left <= word_at(words, 3) {
-        return std::num::wrapping_add_u64(raised(words, place, x), word_at(words, 4));
+        hurdle.wrapping_add(word_at(words, 4))
+    } else {
+        hurdle
     }
-    raised(words, place, x)
+}
+
+// The hurdles that a question's words describe: word 0 starts the generator, word 5 says how many they are, 2,304 at
+// most.
+#[derive(Drop)]
+pub struct Hurdles<'a> {
+    words: &'a [u64],
+    pub count: usize,
+    place: usize,
+    x: u64,
+}
+
+impl<'a> Hurdles<'a> {
+    pub fn new(words: &'a [u64]) -> Hurdles<'a>
+        ensures { StartsHurdles words.now result }
+    {
+        Hurdles {
+            words,
+            count: word_at(words, 5).min(2304) as usize,
+            place: 0,
+            x: word_at(words, 0),
+        }
+    }
+}
+
+impl Iterator for Hurdles<'_> {
+    type Item = u64;
+
+    ghost next_gives = { GivesHurdle };
+
+    ghost remaining = { λ s. at_most (s.count - s.place) };
+
+    fn next(&mut self) -> Option<u64> {
+        if self.count <= self.place {
+            return None;
+        }
+        let left = (self.count - self.place) as u64;
+        self.x = turned(self.x);
+        let hurdle = hurdle(self.words, self.place, left, self.x);
+        self.place += 1;
+        Some(hurdle)
+    }
 }

@@ -9,11 +9,5 @@ no_nan nan e = absurd (true≢false e)
 no_nan (inf s) e = tt
 no_nan (fin s m k) e = tt
 
-pub returns-then-x : goal.returns-then-x
-returns-then-x c = simp c.if-x.true
-
 pub float_to_bits-result : goal.float_to_bits-result
 float_to_bits-result c = no_nan c.args.x c.if-x.false
-
-pub returns : goal.returns
-returns c = simp c.if-x.false
