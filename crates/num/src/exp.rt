@@ -12,6 +12,7 @@ pub(crate) const HI: f64 = 0.6931471803691238;
 pub(crate) const LO: f64 = 1.9082149292705877e-10;
 
 // The polynomial of degree 13 at r.
+#[tactic(auto, using(crate::proofs::Polynomial::step, crate::proofs::Polynomial::done))]
 fn series(r: f64) -> f64
     ensures { result ≡ horner r 13 one }
 {

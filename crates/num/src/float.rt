@@ -89,6 +89,7 @@ pub fn floor(x: f64) -> f64
 }
 
 // Rust's `x.ceil()`.
+#[tactic(auto, using(crate::proofs::Floors::ceil_floor))]
 pub fn ceil(x: f64) -> f64
     ensures { result ≡ ceil_of x }
 {

@@ -11,7 +11,7 @@ const SQRT_2: f64 = 1.4142135623730951;
 
 const LN_1_25: f64 = 0.22314355131420974;
 
-// 1/(2j + 1), for j from 9 down to 0.
+// 1/(2j + 1), for j from 9 down to 0: constants, since the compiler divides in a loop at each turn.
 const RECIPROCALS: [f64; 10] = [
     1.0 / 19.0,
     1.0 / 17.0,
