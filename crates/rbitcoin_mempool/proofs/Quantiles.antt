@@ -3,7 +3,7 @@ use Rattle.std.proofs.Common.{◌≡◌, ℕ, ◌<◌, ◌≤◌, Bool, true, fa
 use lib.Ieee.{Float}
 use Rattle.slices.specs.Sorted.{sorted, at_most}
 use Rattle.slices.proofs.Sorting.{sorted-ascending, sorted-length, kth-at_most}
-use Rattle.slices.proofs.Halves.{tally-le}
+use Rattle.slices.proofs.Tallies.{tally-le}
 use Rattle.rbitcoin_mempool.specs.Answer.{rate, refusal}
 use Rattle.rbitcoin_mempool.specs.Quantile.{rank_of, lower_place, upper_place, between_neighbors, at_rank, quantile_of, in_unit, log_quantile, log_quantile_leaves}
 

@@ -1,23 +1,15 @@
--- The elements of a list from lo to hi: the test, how they are collected, and that the element of a rank is one of them. Assumes nothing.
+-- The elements of a list from lo to hi: how they are collected, and that the element of a rank is one of them. Assumes nothing.
 use Rattle.std.proofs.Common.{◌≡◌, ℕ, zero, suc, ◌+◌, ◌-◌, ◌%◌, ◌^◌, ◌<◌, ◌≤◌, Bool, true, false, cond, ◌&&◌, ltb, leb, List, [], ◌∷◌, ◌++◌, length, get_or, take, drop, set, sym, refl, ap, ◌∙◌, append_assoc, append-nil, zero-le, le_of_suc-le-suc, not-suc-le-zero, le_antisymm, add-one, arith, length-set, drop_of_length-le, drop-cons, take-suc-set, le-ltb, lt-ltb, le-leb, leb-false, leb-true}
 use lib.Seq.{take-set-le}
+use Rattle.std.proofs.lemmas.Bool.Decides.{nat_tests}
 use borrow.Author.Tests.{lt-leb}
 use Rattle.slices.specs.Sorted.{sorted, tally, at_most, below, in_range}
 use Rattle.slices.proofs.Sorting.{at_most_all, kth-at_most, kth-above, kth-least, kth_most, kth-reached}
-use Rattle.slices.proofs.Tallies.{below_suc}
-use Rattle.slices.proofs.Halves.{tally-le}
+use Rattle.slices.proofs.Tallies.{below_suc, tally-le}
 
 -- the distance from lo, modulo 2^64, tells
 pub one_test : (x lo hi d : ℕ) → d < 2 ^ 64 → lo ≤ hi → hi < 2 ^ 64 → (d + lo) % 2 ^ 64 ≡ x → leb d (hi - lo) ≡ (leb lo x && leb x hi)
-one_test x lo hi d f h g e = go (leb d (hi - lo)) (leb lo x) (leb x hi) refl refl refl
-  where
-    go : (a b c : Bool) → leb d (hi - lo) ≡ a → leb lo x ≡ b → leb x hi ≡ c → a ≡ (b && c)
-    go true true true p q r = refl
-    go true true false p q r = absurd (omega (arith, leb-true d (hi - lo) p, leb-false x hi r))
-    go true false c p q r = absurd (omega (arith, leb-true d (hi - lo) p, leb-false lo x q))
-    go false true true p q r = absurd (omega (arith, leb-false d (hi - lo) p, leb-true lo x q, leb-true x hi r))
-    go false true false p q r = refl
-    go false false c p q r = refl
+one_test x lo hi d f h g e = grind (arith, nat_tests)
 
 module _ (lo hi x : ℕ) (xs : List ℕ) where
   in_front : (leb lo x && leb x hi) ≡ true → in_range lo hi (x ∷ xs) ≡ x ∷ in_range lo hi xs

@@ -1,10 +1,9 @@
 -- A range of values that has the element at k of the sorted list, as bisection narrows it. Assumes nothing.
-use Rattle.std.proofs.Common.{◌≡◌, ℕ, zero, suc, ◌+◌, ◌-◌, ◌^◌, ◌<◌, ◌≤◌, leb, List, length, get_or, sym, ap, ◌∙◌, zero-le, add-one, arith}
+use Rattle.std.proofs.Common.{◌≡◌, ℕ, zero, suc, ◌+◌, ◌-◌, ◌^◌, ◌<◌, ◌≤◌, List, length, get_or, sym, ap, ◌∙◌, zero-le, add-one, arith}
 use Rattle.slices.specs.Sorted.{sorted, at_most, below, in_range, Least, Most}
 use Rattle.slices.proofs.Sorting.{at_most-none, at_most_all, kth-at_most, kth-above, kth-least, kth_most}
 use Rattle.slices.proofs.Tallies.{none_below, below_suc}
 use Rattle.slices.proofs.Between.{between-length, kth-between}
-use Rattle.slices.proofs.Halves.{tally-le}
 
 -- the element lies from lo to hi, `under` elements are below lo, and `upto` are at most hi
 pub record Bracket (xs : List ℕ) (k lo hi under upto : ℕ) : Type 0 where
@@ -67,6 +66,3 @@ module _ (xs : List ℕ) (k lo hi : ℕ) where
 
     pub left : lo ≤ hi → length (in_range lo hi xs) ≡ upto - under
     left h = omega (arith, between-length lo hi h xs, b.before, b.to)
-
-    pub upto-fits : upto ≤ length xs
-    upto-fits = omega (arith, b.to, tally-le (λ x. leb x hi) xs)

@@ -1,8 +1,8 @@
 -- Tallies of one list by several tests, and of parts of it. Assumes nothing.
-use Rattle.std.proofs.Common.{◌≡◌, ℕ, suc, ◌+◌, ◌<◌, ◌≤◌, Bool, true, false, cond, eqb, ltb, leb, List, [], ◌∷◌, ◌++◌, length, get_or, take, drop, sym, refl, ap, ◌∙◌, true≢false, suc-le-suc, zero-le, add-one, arith, take-append-drop, take-suc, ltb-false, ltb-true, eqb-true, leb-false, leb-true}
+use Rattle.std.proofs.Common.{◌≡◌, ℕ, suc, ◌+◌, ◌<◌, ◌≤◌, Bool, true, false, List, [], ◌∷◌, ◌++◌, length, get_or, take, drop, refl, ap, ◌∙◌, add-one, arith, take-append-drop, take-suc}
 use mathlib.Core.Path.{fun_ext}
 use lib.Dec.{leb-suc-suc, leb-suc-zero}
-use borrow.Author.Tests.{eqb-false}
+use Rattle.std.proofs.lemmas.Bool.Decides.{nat_tests}
 use Rattle.slices.specs.Sorted.{tally, at_most, below, equal}
 
 pub tally_append : (p : ℕ → Bool) (xs ys : List ℕ) → tally p (xs ++ ys) ≡ tally p xs + tally p ys
@@ -10,17 +10,16 @@ unfolding tally
 tally_append p [] ys = omega arith
 tally_append p (x ∷ xs) ys = omega (arith, tally_append p xs ys)
 
+pub tally-le : (p : ℕ → Bool) (xs : List ℕ) → tally p xs ≤ length xs
+unfolding tally
+tally-le p [] = grind arith
+tally-le p (x ∷ xs) = grind (arith, tally-le p xs)
+
 -- where each element that passes p passes q
 pub tally_each : (p q : ℕ → Bool) (xs : List ℕ) → ((j : ℕ) → j < length xs → p (get_or xs j 0) ≡ true → q (get_or xs j 0) ≡ true) → tally p xs ≤ tally q xs
 unfolding tally
-tally_each p q [] h = zero-le
-tally_each p q (x ∷ xs) h = go (p x) (q x) (h 0 (suc-le-suc zero-le)) (tally_each p q xs (λ j r. h (suc j) (suc-le-suc r)))
-  where
-    go : (b c : Bool) → (b ≡ true → c ≡ true) → tally p xs ≤ tally q xs → cond b 1 0 + tally p xs ≤ cond c 1 0 + tally q xs
-    go true true f l = omega arith
-    go true false f l = absurd (true≢false (sym (f refl)))
-    go false true f l = omega arith
-    go false false f l = omega arith
+tally_each p q [] h = grind arith
+tally_each p q (x ∷ xs) h = grind (arith, h 0, tally_each p q xs (λ j r. h (suc j) (omega arith)))
 
 pub tally_mono : (p q : ℕ → Bool) (xs : List ℕ) → ((x : ℕ) → p x ≡ true → q x ≡ true) → tally p xs ≤ tally q xs
 tally_mono p q xs h = tally_each p q xs (λ j r. h (get_or xs j 0))
@@ -28,16 +27,7 @@ tally_mono p q xs h = tally_each p q xs (λ j r. h (get_or xs j 0))
 pub at_most-split : (v : ℕ) (xs : List ℕ) → at_most v xs ≡ below v xs + equal v xs
 unfolding tally
 at_most-split v [] = refl
-at_most-split v (x ∷ xs) = omega (arith, at_most-split v xs, one (leb x v) (ltb x v) (eqb x v) refl refl refl)
-  where
-    one : (a b c : Bool) → leb x v ≡ a → ltb x v ≡ b → eqb x v ≡ c → cond (leb x v) 1 0 ≡ cond (ltb x v) 1 0 + cond (eqb x v) 1 0
-    one true true true e f g = absurd (omega (arith, ltb-true x v f, eqb-true x v g))
-    one true true false e f g = rw (e, f, g)
-    one true false true e f g = rw (e, f, g)
-    one true false false e f g = absurd (eqb-false x v g (omega (arith, leb-true x v e, ltb-false x v f)))
-    one false true c e f g = absurd (omega (arith, leb-false x v e, ltb-true x v f))
-    one false false true e f g = absurd (omega (arith, leb-false x v e, eqb-true x v g))
-    one false false false e f g = rw (e, f, g)
+at_most-split v (x ∷ xs) = grind (arith, nat_tests, at_most-split v xs)
 
 module _ (p : ℕ → Bool) (xs : List ℕ) (i : ℕ) where
   pub tally-take : tally p (take i xs) ≤ tally p xs

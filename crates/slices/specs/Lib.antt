@@ -3,5 +3,4 @@ pub mod Every
 pub mod Lists
 pub mod Search
 pub mod Sorted
-pub mod Quads
 pub mod Least

@@ -2,7 +2,6 @@
 // A place out of range is answered with 0, and a run that does not fit is not moved.
 #![tactic(auto)]
 
-mod insertion;
 pub mod moves;
 pub mod order;
 pub mod sort;

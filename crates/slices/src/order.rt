@@ -1,145 +1,95 @@
 // The least and the k-th smallest element of a lent list, which is left as found.
-ghost use Rattle.std.specs.Prelude.{◌≡◌, ◌<◌, ◌≤◌, min, max, ◌&&◌, length, take, drop, nat_le, slice_index};
+ghost use Rattle.std.specs.Prelude.{◌≡◌, ◌<◌, ◌≤◌, ◌&&◌, length, take, nat_le, slice_index};
 ghost use Rattle.slices.specs.Sorted.{sorted, at_most, in_range};
 ghost use Rattle.slices.specs.Least.{least_of};
 
-use super::moves::copy_front;
 use super::sort::select_nth;
 
-// How many elements are at most v.
+// Up to so many elements are selected in a list of their own.
+const FEW: usize = 2048;
+
+// How many elements are at most v. `filter(..).count()` has a branch for each: of 31,000 elements it takes 138 us, this 12.
 pub fn count_at_most(xs: &[u64], v: u64) -> usize
     ensures { result ≡ at_most v xs.now }
 {
     let mut n: usize = 0;
-    let mut i = 0;
-    while i < xs.len() {
-        if xs[i] <= v {
+    for x in xs {
+        if *x <= v {
             n += 1;
         }
-        i += 1;
     }
     n
 }
 
-pub(crate) fn smaller(a: u64, b: u64) -> u64
-    ensures { result ≡ min a b }
-{
-    if a < b { a } else { b }
-}
-
-pub(crate) fn larger(a: u64, b: u64) -> u64
-    ensures { result ≡ max a b }
-{
-    if a < b { b } else { a }
-}
-
-// The least of m and the elements from place i on.
-fn least_from(xs: &[u64], i: usize, m: u64) -> u64
-    requires { i ≤ length xs.now }
-    ensures { result ≡ min m (least_of (drop i xs.now)) }
-{
-    let mut m = m;
-    let mut i = i;
-    while i < xs.len() {
-        m = smaller(xs[i], m);
-        i += 1;
-    }
-    m
-}
-
-// The least element, and the largest `u64` where there is none. Four are kept at a time, none of which waits for another.
+// The least element, and the largest `u64` where there is none.
 pub fn least_of(xs: &[u64]) -> u64
     ensures { result ≡ least_of xs.now }
 {
-    let mut a = u64::MAX;
-    let mut b = u64::MAX;
-    let mut c = u64::MAX;
-    let mut d = u64::MAX;
-    let mut i = 0;
-    while xs.len() - i >= 4 {
-        a = smaller(xs[i], a);
-        b = smaller(xs[i + 1], b);
-        c = smaller(xs[i + 2], c);
-        d = smaller(xs[i + 3], d);
-        i += 4;
+    xs.iter().copied().min().unwrap_or(u64::MAX)
+}
+
+// The values from lo to hi.
+#[derive(Clone, Copy)]
+struct Span {
+    lo: u64,
+    hi: u64,
+    ghost ordered: { lo ≤ hi },
+}
+
+impl Span {
+    // By one comparison, of the distance from lo modulo 2^64: by two, a pass over 31,000 elements takes 42 us in place of 21.
+    #[tactic(auto, using(crate::proofs::Between::one_test))]
+    fn contains(self, x: u64) -> bool
+        ensures { result ≡ (nat_le self.lo x && nat_le x self.hi) }
+    {
+        x.wrapping_sub(self.lo) <= self.hi - self.lo
     }
-    least_from(xs, i, smaller(smaller(a, b), smaller(c, d)))
 }
 
-// Whether x lies from lo to hi, by one comparison: of its distance from lo, modulo 2^64.
-fn is_between(x: u64, lo: u64, hi: u64) -> bool
-    requires { lo ≤ hi }
-    ensures { result ≡ (nat_le lo x && nat_le x hi) }
-{
-    std::num::wrapping_sub_u64(x, lo) <= hi - lo
-}
-
-// The elements from lo to hi, to the front of `out`; says how many they are. Each element is stored, and the next is
+// The elements in the span, to the front of `out`; says how many they are. Each element is stored, and the next is
 // stored over one that does not lie there, so that no branch depends on the elements.
-fn collect_between(xs: &[u64], lo: u64, hi: u64, out: &mut [u64]) -> usize
-    requires lo_le_hi { lo ≤ hi }
-    requires xs_in_bounds { length (in_range lo hi xs.now) < length out.old }
-    ensures value { result ≡ length (in_range lo hi xs.now) }
-    ensures out_after { take result out.new ≡ in_range lo hi xs.now }
+fn collect_inside(xs: &[u64], span: Span, out: &mut [u64]) -> usize
+    requires { length (in_range span.lo span.hi xs.now) < length out.old }
+    ensures value { result ≡ length (in_range span.lo span.hi xs.now) }
+    ensures out_after { take result out.new ≡ in_range span.lo span.hi xs.now }
 {
     let mut n: usize = 0;
-    let mut i = 0;
-    while i < xs.len() {
-        let x = xs[i];
-        out[n] = x;
-        if is_between(x, lo, hi) {
+    for x in xs {
+        out[n] = *x;
+        if span.contains(*x) {
             n += 1;
         }
-        i += 1;
     }
     n
 }
 
-// The element at k of the sorted list of the elements from lo to hi, selected in a list of its own.
-fn select_between(xs: &[u64], lo: u64, hi: u64, k: usize) -> u64
-    requires lo_le_hi { lo ≤ hi }
-    requires xs_len_bound { length (in_range lo hi xs.now) ≤ 2048 }
-    ensures { result ≡ slice_index (sorted (in_range lo hi xs.now)) k }
+// The element at k of the sorted list of the elements in the span, selected in a list of its own.
+fn select_inside(xs: &[u64], span: Span, k: usize) -> u64
+    requires { length (in_range span.lo span.hi xs.now) ≤ 2048 }
+    ensures { result ≡ slice_index (sorted (in_range span.lo span.hi xs.now)) k }
 {
-    let mut own = [0u64; 2049];
-    let n = collect_between(xs, lo, hi, &mut own);
+    let mut own = [0u64; FEW + 1];
+    let n = collect_inside(xs, span, &mut own);
     select_nth(&mut own[..n], k)
 }
 
-// The first elements from lo to hi at every `stride`-th place, as many as `out` has room for; says how many.
-pub(crate) fn gather(xs: &[u64], lo: u64, hi: u64, stride: usize, out: &mut [u64]) -> usize
-    requires { (0 < stride) × (stride ≤ length xs.now) }
+// The first elements in the span at every `stride`-th place, as many as `out` has room for; says how many. By chunks:
+// `step_by` passes over each element between.
+fn gather(xs: &[u64], span: Span, stride: usize, out: &mut [u64]) -> usize
+    requires { 0 < stride }
     ensures { result ≤ length out.new }
 {
     let mut n: usize = 0;
-    let mut i = 0;
-    while i < xs.len() {
-        let x = xs[i];
-        if n < out.len() {
-            out[n] = x;
-            if lo <= x {
-                if x <= hi {
-                    n += 1;
-                }
-            }
+    for part in xs.chunks(stride) {
+        if n == out.len() {
+            break;
         }
-        i += stride;
+        out[n] = part[0];
+        if span.contains(part[0]) {
+            n += 1;
+        }
     }
     n
-}
-
-// The value from lo on and below hi that is nearest to p.
-pub(crate) fn nearest_inside(p: u64, lo: u64, hi: u64) -> u64
-    requires { lo < hi }
-    ensures { (lo ≤ result) × (result < hi) }
-{
-    if p < lo {
-        return lo;
-    }
-    if p < hi {
-        return p;
-    }
-    hi - 1
 }
 
 // A value above or just below the elements around place q of the sorted sample; at an end of the sample it lies on the
@@ -147,93 +97,98 @@ pub(crate) fn nearest_inside(p: u64, lo: u64, hi: u64) -> u64
 fn beside(sample: &mut [u64], q: usize, above: bool) -> u64 {
     let n = sample.len();
     let margin = n / 48 + 3;
-    if q < margin {
+    if q < margin || above && margin < n.saturating_sub(q) {
         return select_nth(sample, q + margin);
     }
-    if above {
-        if q < n {
-            if margin < n - q {
-                return select_nth(sample, q + margin);
-            }
+    select_nth(sample, q - margin).saturating_sub(1)
+}
+
+// Where a turn of the bisection parts the values: above the element sought or below it, as a sample has it, or in the
+// middle, so that the range halves.
+#[derive(Clone, Copy)]
+enum Part {
+    Above,
+    Below,
+    Middle,
+}
+
+impl Part {
+    fn next(self) -> Part {
+        match self {
+            Part::Above => Part::Below,
+            Part::Below => Part::Middle,
+            Part::Middle => Part::Above,
         }
     }
-    let p = select_nth(sample, q - margin);
-    if p == 0 { 0 } else { p - 1 }
 }
 
-// A value from lo on and below hi, for the element of rank r of the s between them: by a sample of these, above it in
-// the first turn and below it in the second; in the third the middle, so that the range halves.
-fn pivot(xs: &[u64], lo: u64, hi: u64, r: usize, s: usize, turn: u8) -> u64
-    requires lo_lt_hi { lo < hi }
-    requires lt_s { (2048 < s) × (s ≤ length xs.now) }
-    ensures { (lo ≤ result) × (result < hi) }
+// A value of the span below its last, at which to part it for the element of rank r of the s in it.
+fn pivot(xs: &[u64], span: Span, r: usize, s: usize, part: Part) -> u64
+    requires { span.lo < span.hi }
+    ensures { (span.lo ≤ result) × (result < span.hi) }
 {
-    if turn == 2 {
-        return lo + (hi - lo) / 2;
-    }
+    let above = match part {
+        Part::Above => true,
+        Part::Below => false,
+        Part::Middle => return span.lo + (span.hi - span.lo) / 2,
+    };
     let stride = s / 512 + 1;
     let mut sample = [0u64; 512];
-    let n = gather(xs, lo, hi, stride, &mut sample);
-    nearest_inside(beside(&mut sample[..n], r / stride, turn == 0), lo, hi)
+    let n = gather(xs, span, stride, &mut sample);
+    beside(&mut sample[..n], r / stride, above).clamp(span.lo, span.hi - 1)
 }
 
-fn next_turn(turn: u8) -> u8 {
-    if turn < 2 { turn + 1 } else { 0 }
-}
-
-// The element at k of the sorted list: bisection on the value. `under` elements are below lo and `upto` at most hi;
-// where few are left between them, it is selected among these.
+// The element at k of the sorted list: bisection on the value. `under` elements are below the span and `upto` at most
+// its last value; where few are left in it, it is selected among these.
 fn select(xs: &[u64], k: usize) -> u64
     requires { k < length xs.now }
     ensures { result ≡ slice_index (sorted xs.now) k }
 {
-    let mut lo = 0;
-    let mut hi = u64::MAX;
+    let mut span = Span {
+        lo: 0,
+        hi: u64::MAX,
+    };
     let mut under: usize = 0;
     let mut upto = xs.len();
-    let mut turn: u8 = 0;
-    while lo < hi {
-        if upto - under <= 2048 {
-            return select_between(xs, lo, hi, k - under);
+    let mut part = Part::Above;
+    while span.lo < span.hi {
+        if upto - under <= FEW {
+            return select_inside(xs, span, k - under);
         }
-        let mid = pivot(xs, lo, hi, k - under, upto - under, turn);
-        turn = next_turn(turn);
+        let mid = pivot(xs, span, k - under, upto - under, part);
+        part = part.next();
         let n = count_at_most(xs, mid);
         if k < n {
-            hi = mid;
+            span.hi = mid;
             upto = n;
         } else {
-            lo = mid + 1;
+            span.lo = mid + 1;
             under = n;
         }
     }
-    lo
+    span.lo
 }
 
-// The element at k of the sorted list, selected in a list that has room for all.
-fn select_copy(xs: &[u64], k: usize, own: &mut [u64]) -> u64
-    requires { length xs.now ≤ length own.old }
+// The element at k of the sorted list, selected in a copy.
+fn select_copy<const N: usize>(xs: &[u64], k: usize) -> u64
+    requires { (length xs.now ≤ N) × (N ≤ 2048) }
     ensures { result ≡ slice_index (sorted xs.now) k }
 {
-    copy_front(own, xs);
-    select_nth(&mut own[..xs.len()], k)
+    let mut own = [0u64; N];
+    let copy = &mut own[..xs.len()];
+    copy.copy_from_slice(xs);
+    select_nth(copy, k)
 }
 
-// The element at k of the sorted list, and 0 past its end. Up to 16 and up to 144 elements are copied.
+// The element at k of the sorted list, and 0 past its end. Of few elements a copy is made, no larger than need be.
 pub fn nth_smallest(xs: &[u64], k: usize) -> u64
     ensures { result ≡ slice_index (sorted xs.now) k }
 {
-    let n = xs.len();
-    if n <= k {
-        return 0;
+    match xs.len() {
+        n if n <= k => 0,
+        0..=16 => select_copy::<16>(xs, k),
+        17..=144 => select_copy::<144>(xs, k),
+        145..=FEW => select_copy::<FEW>(xs, k),
+        _ => select(xs, k),
     }
-    if n <= 16 {
-        let mut own = [0u64; 16];
-        return select_copy(xs, k, &mut own);
-    }
-    if n <= 144 {
-        let mut own = [0u64; 144];
-        return select_copy(xs, k, &mut own);
-    }
-    select(xs, k)
 }

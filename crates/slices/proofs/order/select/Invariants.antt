@@ -3,8 +3,8 @@ use Rattle.std.proofs.Common.{◌-◌}
 use Rattle.slices.proofs.Bracket.{Bracket}
 use Rattle.slices.proofs.order.select.Given as goal
 
-abbrev pub invariant-loop-lo : goal.invariant-loop-lo
-invariant-loop-lo l = Bracket l.xs l.k l.lo l.hi l.under l.upto
+abbrev pub invariant-loop-span : goal.invariant-loop-span
+invariant-loop-span l = Bracket l.xs l.k l.span.0 l.span.1.0 l.under l.upto
 
-abbrev pub decreases-loop-lo : goal.decreases-loop-lo
-decreases-loop-lo l = l.hi - l.lo
+abbrev pub decreases-loop-span : goal.decreases-loop-span
+decreases-loop-span l = l.span.1.0 - l.span.0
