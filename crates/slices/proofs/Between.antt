@@ -26,9 +26,6 @@ pub record Collecting (lo hi : ℕ) (xs start out : List ℕ) (n i : ℕ) : Type
   pub done : take n out ++ in_range lo hi (drop i xs) ≡ in_range lo hi xs
   pub count : n + length (in_range lo hi (drop i xs)) ≡ length (in_range lo hi xs)
 
-pub collect-start : (lo hi : ℕ) (xs start : List ℕ) → Collecting lo hi xs start start 0 0
-collect-start lo hi xs start = record { size = refl; done = refl; count = omega arith }
-
 module _ (lo hi : ℕ) (xs start out : List ℕ) (n i : ℕ) (h : Collecting lo hi xs start out n i) where
   module _ (room : length (in_range lo hi xs) < length start) (r : i < length xs) where
     abbrev x : ℕ

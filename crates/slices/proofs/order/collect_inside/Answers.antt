@@ -1,11 +1,8 @@
 -- `slices::order::collect_inside` meets its contract. The loop's invariant is `Collecting` of proofs/Between.antt. Assumes nothing.
 use Rattle.std.proofs.Common.{sym, ◌∙◌, arith}
-use Rattle.slices.proofs.Between.{collect-start, collect_in, collect-past, collect-count, collect_end}
+use Rattle.slices.proofs.Between.{collect_in, collect-past, collect-count, collect_end}
 use Rattle.slices.proofs.order.collect_inside.Goals as goal
 use Rattle.slices.proofs.order.collect_inside.Goals.{then-contains, else-contains}
-
-pub loop-x-init : goal.loop-x-init
-loop-x-init c = collect-start _ _ _ _
 
 pub loop-x-preserved : goal.loop-x-preserved
 loop-x-preserved c =

@@ -2,7 +2,5 @@
 use Rattle.std.proofs.Common.{◌≡◌, ◌≤◌, length}
 use Rattle.slices.proofs.order.gather.Given as goal
 
-abbrev pub invariant-loop-part : goal.invariant-loop-part
-invariant-loop-part l =
-    (goal.iterator-loop-part).can_next l.part-iterator × (goal.iterator-loop-part).is_finite l.part-iterator
-    × (l.n ≤ length l.out) × (length l.out ≡ length l.initial.out)
+abbrev pub invariant-loop-chunk : goal.invariant-loop-chunk
+invariant-loop-chunk l = (l.n ≤ length l.out) × (length l.out ≡ length l.initial.out)

