@@ -13,11 +13,7 @@ use borrow.Author.Tests.{lt-ltb, le-ltb}
 use Rattle.io.specs.Digits.{last_digits, IsDigitCount}
 use Rattle.slices.specs.Search.{seek}
 use Rattle.slices.proofs.Search.{seek_is, sought}
-use Rattle.rbitcoin_mempool.specs.Answer.{answer}
-use Rattle.rbitcoin_mempool.specs.declared.answer.RateAnswer.{RateAnswer}
-use Rattle.rbitcoin_mempool.specs.declared.answer.RateAnswer.TheVariants.{Found}
-use Rattle.quote_lines.specs.Bytes.{dash}
-use Rattle.quote_board.specs.Text.{width, decimal, rate_text, quote_lines, quote_line}
+use Rattle.quote_board.specs.Text.{width, decimal, quote_lines, quote_line}
 
 -- ---- digits
 digits-length : (b k n : ℕ) → length (last_digits b k n) ≡ k
@@ -47,15 +43,6 @@ decimal_is n k h f = ap (λ (j : ℕ). last_digits 10 j n) (width_is n k h f)
 pub decimal_short : (n : ℕ) → length (decimal n) ≤ 20
 unfolding decimal width
 decimal_short n = rw (digits-length 10 (seek (λ k. ltb n (10 ^ k)) 1 19) n) (sought (λ k. ltb n (10 ^ k)) 1 19).to
-
--- what is no rate is written as `-`
-pub no_rate : (a : RateAnswer) → ((r : ℕ) → a ≡ Found r → ⊥) → rate_text (answer a) ≡ dash ∷ []
-unfolding rate_text
-no_rate a h = grind arith
-
-pub rate_is : (a : RateAnswer) (r : ℕ) → a ≡ Found r → rate_text (answer a) ≡ decimal r
-unfolding rate_text
-rate_is a r e = rw e
 
 -- ---- the lines of targets, one more
 module _ (ds rs ms : List ℕ) where

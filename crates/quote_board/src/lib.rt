@@ -37,7 +37,7 @@ fn put_decimal(out: &mut Text, n: u64)
     put(out, &digits[..count]);
 }
 
-#[tactic(auto, using(crate::proofs::Writing::rate_is, crate::proofs::Writing::no_rate))]
+#[tactic(auto, unfolding(crate::specs::Text::rate_text))]
 fn put_rate(out: &mut Text, rate: RateAnswer)
     requires { array_vec_len out.old + 20 ≤ 4096 }
     ensures text { out.new.items ≡ out.old.items ++ rate_text (answer rate) }
