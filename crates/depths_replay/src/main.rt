@@ -95,21 +95,12 @@ impl Marks {
     }
 }
 
-fn put_monotone<W: Write>(to: &mut W, rates: &mut [u64]) -> io::Result<()> {
-    fee_est::enforce_monotone_desc(rates);
-    put::list(to, rates)?;
-    put::newline(to)
-}
-
 fn monotone<W: Write>(to: &mut W, mut words: Words) -> io::Result<()> {
     let mut rates = [0u64; 64];
     let n = words.copy_list(&mut rates);
-    put_monotone(to, &mut rates[..n])
-}
-
-fn put_held<W: Write>(to: &mut W, rates: &mut [u64], marks: &mut [u8]) -> io::Result<()> {
-    let outcome = fee_est::hold_defined_then_monotone(rates, marks);
-    put_left(to, outcome, rates, marks)
+    fee_est::enforce_monotone_desc(&mut rates[..n]);
+    put::list(to, &rates[..n])?;
+    put::newline(to)
 }
 
 fn hold<W: Write>(to: &mut W, mut words: Words) -> io::Result<()> {
@@ -117,7 +108,8 @@ fn hold<W: Write>(to: &mut W, mut words: Words) -> io::Result<()> {
     let n = words.copy_list(&mut rates);
     let mut marks = [0u8; 64];
     let m = words.copy_list(&mut marks);
-    put_held(to, &mut rates[..n], &mut marks[..m])
+    let outcome = fee_est::hold_defined_then_monotone(&mut rates[..n], &mut marks[..m]);
+    put_left(to, outcome, &rates[..n], &marks[..m])
 }
 
 fn lookup(mut words: Words) -> RateAnswer {

@@ -18,7 +18,8 @@ use crate::question::{Lines, Question, read_words};
 use std::io;
 use std::io::{Read, Write};
 
-// Reads until a buffer is full or the input ends, and says how many bytes that were.
+// Reads until a buffer is full or the input ends, and says how many bytes that were. Only a read itself tells how far it
+// comes, so there is no list or range to loop over.
 pub fn read_full<R: Read>(from: &mut R, buf: &mut [u8]) -> io::Result<usize>
     ensures { IfOk result (λ n. Filled (R.remaining from.old) (R.remaining from.new) n buf.new) }
 {
@@ -33,7 +34,8 @@ pub fn read_full<R: Read>(from: &mut R, buf: &mut [u8]) -> io::Result<usize>
     Ok(n)
 }
 
-// Answers each question of an input, of which the first 65,536 bytes are read.
+// Answers each question of an input, of which the first 65,536 bytes are read. They fit an array, so that the programs
+// take no memory, as the estimator takes none.
 pub fn answer_all<R: Read, W: Write, F: Fn(&mut W, Question) -> io::Result<()>>(
     from: &mut R,
     to: &mut W,

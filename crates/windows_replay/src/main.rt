@@ -30,18 +30,14 @@ fn put_only_rate<W: Write>(to: &mut W, answer: RateAnswer) -> io::Result<()> {
 }
 
 // The quantile, and the list as it is left.
-fn put_quantile<W: Write>(to: &mut W, outcomes: &mut [u64], confidence: f64) -> io::Result<()> {
-    put_rate(to, fee_analog::log_quantile(outcomes, confidence))?;
-    put::space(to)?;
-    put::list(to, outcomes)?;
-    put::newline(to)
-}
-
 fn quantile<W: Write>(to: &mut W, mut words: Words) -> io::Result<()> {
     let confidence = words.f64();
-    let mut list = [0u64; 512];
-    let n = words.copy_list(&mut list);
-    put_quantile(to, &mut list[..n], confidence)
+    let mut outcomes = [0u64; 512];
+    let n = words.copy_list(&mut outcomes);
+    put_rate(to, fee_analog::log_quantile(&mut outcomes[..n], confidence))?;
+    put::space(to)?;
+    put::list(to, &outcomes[..n])?;
+    put::newline(to)
 }
 
 fn refusal_number(outcome: Outcome) -> u64 {
