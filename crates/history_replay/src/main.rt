@@ -135,6 +135,18 @@ fn zeros() -> Memory {
     }
 }
 
+fn cut(s: FeeHistory, height: u32, m: &mut Memory) -> HistoryUpdate {
+    s.truncate_above(
+        height,
+        &mut m.heights,
+        &mut m.marks,
+        &mut m.rates,
+        &mut m.sizes,
+        &mut m.kept,
+        &mut m.bytes,
+    )
+}
+
 fn updated(s: FeeHistory, call: Call, m: &mut Memory) -> HistoryUpdate {
     match Kind::from(call.code) {
         Kind::Connect => s.insert(
@@ -165,15 +177,7 @@ fn updated(s: FeeHistory, call: Call, m: &mut Memory) -> HistoryUpdate {
             &mut m.befores,
             &mut m.aheads,
         ),
-        Kind::Cut => s.truncate_above(
-            call.height(),
-            &mut m.heights,
-            &mut m.marks,
-            &mut m.rates,
-            &mut m.sizes,
-            &mut m.kept,
-            &mut m.bytes,
-        ),
+        Kind::Cut => cut(s, call.height(), m),
     }
 }
 
