@@ -7,7 +7,8 @@ use Rattle.std.specs.Io.KnownBytes.{Consumes, IsAtEnd}
 use Rattle.replay_lines.specs.Lines.{up_to, lines_of, words_of}
 use Rattle.replay_lines.specs.declared.question.Question.{Question}
 
-module _ {F W E : Type 0} (g : Shared F (MutBor W × (Question × Unit {0})) (Result (Unit {0}) E × (MutBor W × Unit {0}))) (f : F) where
+module _ {F W E : Type 0} (g : Shared F (MutBor W × (Question × Unit {0})) (Result (Unit {0}) E × (MutBor W × Unit {0})))
+    (f : F) where
   -- a call of f with the name and the words of a line succeeded, and brought the writer from w to w'
   pub record Answers (w : W) (line : List ℕ) (w' : W) : Type 0 where
     pub shown : MutBor W

@@ -18,8 +18,8 @@ use crate::question::{Lines, Question, read_words};
 use std::io;
 use std::io::{Read, Write};
 
-// Reads until a buffer is full or the input ends, and says how many bytes that were. Only a read itself tells how far it
-// comes, so there is no list or range to loop over.
+// Reads until a buffer is full or the input ends, and says how many bytes that were. Only a read itself tells how far
+// it comes, so there is no list or range to loop over.
 pub fn read_full<R: Read>(from: &mut R, buf: &mut [u8]) -> io::Result<usize>
     ensures { IfOk result (λ n. Filled (R.remaining from.old) (R.remaining from.new) n buf.new) }
 {
@@ -42,7 +42,8 @@ pub fn answer_all<R: Read, W: Write, F: Fn(&mut W, Question) -> io::Result<()>>(
     answer: F,
 ) -> io::Result<()>
     requires { F.IsAlwaysCallable answer }
-    ensures { OnOk result (AnswersAll F.Fn answer (R.remaining from.old) (R.remaining from.new) to.old to.new) }
+    ensures { OnOk result
+        (AnswersAll F.Fn answer (R.remaining from.old) (R.remaining from.new) to.old to.new) }
 {
     let mut lines = [0u8; 65536];
     let n = read_full(from, &mut lines)?;
