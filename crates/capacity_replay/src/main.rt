@@ -3,7 +3,7 @@
 // results in the same form, of a rate the refusal's number, the mark and the rate.
 #![tactic(auto)]
 
-use rbitcoin_mempool::answer::RateAnswer;
+use rbitcoin_mempool::answer::{Rate, Refusal};
 use rbitcoin_mempool::fee_est;
 use replay_lines::put;
 use replay_lines::question::Question;
@@ -16,16 +16,16 @@ fn put_list<W: Write>(to: &mut W, list: &[u64]) -> io::Result<()> {
     put::newline(to)
 }
 
-fn put_rate<W: Write>(to: &mut W, answer: RateAnswer) -> io::Result<()> {
+fn put_rate<W: Write>(to: &mut W, answer: Result<Rate, Refusal>) -> io::Result<()> {
     match answer {
-        RateAnswer::Found(rate) => put::fields(to, 0, 1, rate)?,
-        RateAnswer::Nothing => put::fields(to, 0, 0, 0)?,
-        RateAnswer::Refused(number) => put::fields(to, number as u64, 0, 0)?,
+        Ok(Some(rate)) => put::fields(to, 0, 1, rate)?,
+        Ok(None) => put::fields(to, 0, 0, 0)?,
+        Err(refusal) => put::fields(to, u64::from(u8::from(refusal)), 0, 0)?,
     }
     put::newline(to)
 }
 
-fn min_rate(mut words: Words) -> RateAnswer {
+fn min_rate(mut words: Words) -> Result<Rate, Refusal> {
     let n = words.u32();
     fee_est::min_rate_for_capacity(words.list(), words.list(), words.list(), n)
 }
@@ -35,7 +35,7 @@ fn suffix(mut words: Words) -> [u64; 403] {
     fee_est::inflow_suffix_wu(words.list(), horizon)
 }
 
-fn percentile(mut words: Words) -> RateAnswer {
+fn percentile(mut words: Words) -> Result<Rate, Refusal> {
     let pct = words.u8();
     fee_est::percentile_sat(words.list(), pct)
 }

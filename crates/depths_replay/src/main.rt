@@ -7,8 +7,9 @@
 
 ghost use Rattle.std.specs.Prelude.{◌≤◌};
 
-use rbitcoin_mempool::answer::{Outcome, Rate, RateAnswer};
+use rbitcoin_mempool::answer::{Rate, Refusal};
 use rbitcoin_mempool::fee_est;
+use rbitcoin_mempool::fee_est::{DepthLists, Marked, MarkedMut};
 use replay_lines::put;
 use replay_lines::question::Question;
 use replay_lines::words::Words;
@@ -31,37 +32,30 @@ fn put_marked<W: Write>(to: &mut W, mark: u64, rate: u64) -> io::Result<()> {
 
 fn put_rate<W: Write>(to: &mut W, rate: Rate) -> io::Result<()> {
     match rate {
-        Rate::There(number) => put_marked(to, 1, number),
-        Rate::Missing => put_marked(to, 0, 0),
+        Some(number) => put_marked(to, 1, number),
+        None => put_marked(to, 0, 0),
     }
 }
 
-fn put_answer<W: Write>(to: &mut W, answer: RateAnswer) -> io::Result<()> {
+fn number_of(refusal: Refusal) -> u64 {
+    u64::from(u8::from(refusal))
+}
+
+fn put_answer<W: Write>(to: &mut W, answer: Result<Rate, Refusal>) -> io::Result<()> {
     match answer {
-        RateAnswer::Found(rate) => put::fields(to, 0, 1, rate)?,
-        RateAnswer::Nothing => put::fields(to, 0, 0, 0)?,
-        RateAnswer::Refused(number) => put::fields(to, number as u64, 0, 0)?,
+        Ok(Some(rate)) => put::fields(to, 0, 1, rate)?,
+        Ok(None) => put::fields(to, 0, 0, 0)?,
+        Err(refusal) => put::fields(to, number_of(refusal), 0, 0)?,
     }
     put::newline(to)
 }
 
-fn refusal_number(outcome: Outcome) -> u64 {
-    match outcome {
-        Outcome::Done => 0,
-        Outcome::Refused(number) => number as u64,
-    }
-}
-
-fn put_left<W: Write>(
-    to: &mut W,
-    outcome: Outcome,
-    numbers: &[u64],
-    marks: &[u8],
-) -> io::Result<()> {
-    put::word(to, refusal_number(outcome))?;
+// The refusal's number or 0, and the lists as they are left.
+fn put_left<W: Write>(to: &mut W, outcome: Result<(), Refusal>, left: Marked) -> io::Result<()> {
+    put::word(to, outcome.err().map_or(0, number_of))?;
     put::space(to)?;
-    put::list(to, numbers)?;
-    put_marks(to, marks)?;
+    put::list(to, left.numbers)?;
+    put_marks(to, left.marks)?;
     put::newline(to)
 }
 
@@ -70,8 +64,8 @@ fn rate(words: &mut Words) -> Rate {
     let mark = words.u64();
     let number = words.u64();
     match mark {
-        1 => Rate::There(number),
-        _ => Rate::Missing,
+        1 => Some(number),
+        _ => None,
     }
 }
 
@@ -90,8 +84,12 @@ impl Marks {
         Marks { list, count }
     }
 
-    fn as_slice(&self) -> &[u8] {
-        &self.list[..self.count]
+    // A list of rates under these marks.
+    fn over<'a>(&'a self, numbers: &'a [u64]) -> Marked<'a> {
+        Marked {
+            numbers,
+            marks: &self.list[..self.count],
+        }
     }
 }
 
@@ -108,17 +106,21 @@ fn hold<W: Write>(to: &mut W, mut words: Words) -> io::Result<()> {
     let n = words.copy_list(&mut rates);
     let mut marks = [0u8; 64];
     let m = words.copy_list(&mut marks);
-    let outcome = fee_est::hold_defined_then_monotone(&mut rates[..n], &mut marks[..m]);
-    put_left(to, outcome, &rates[..n], &marks[..m])
+    let mut held = MarkedMut {
+        numbers: &mut rates[..n],
+        marks: &mut marks[..m],
+    };
+    let outcome = fee_est::hold_defined_then_monotone(&mut held);
+    put_left(to, outcome, held.as_marked())
 }
 
-fn lookup(mut words: Words) -> RateAnswer {
+fn lookup(mut words: Words) -> Result<Rate, Refusal> {
     let target = words.u32();
     let mut depths = [0u32; 64];
     let n = words.copy_list(&mut depths);
     let rates = words.list();
     let marks = Marks::read(&mut words);
-    fee_est::fee_at_target_sat_kvb(&depths[..n], rates, marks.as_slice(), target)
+    fee_est::fee_at_target_sat_kvb(&depths[..n], marks.over(rates), target)
 }
 
 // Depths, three lists of rates with their marks, a list to write with its marks, a rate and a share.
@@ -135,21 +137,20 @@ fn publish<W: Write>(to: &mut W, mut words: Words) -> io::Result<()> {
     let k = words.copy_list(&mut out);
     let mut out_marks = [0u8; 64];
     let m = words.copy_list(&mut out_marks);
-    let confirm = rate(&mut words);
-    let outcome = fee_est::published_depth_rates(
-        &depths[..n],
-        projected,
-        projected_marks.as_slice(),
-        frontier,
-        frontier_marks.as_slice(),
-        history,
-        history_marks.as_slice(),
-        confirm,
-        words.f64(),
-        &mut out[..k],
-        &mut out_marks[..m],
-    );
-    put_left(to, outcome, &out[..k], &out_marks[..m])
+    let lists = DepthLists {
+        depths: &depths[..n],
+        projected: projected_marks.over(projected),
+        frontier: frontier_marks.over(frontier),
+        history: history_marks.over(history),
+        confirm: rate(&mut words),
+        alpha: words.f64(),
+    };
+    let mut published = MarkedMut {
+        numbers: &mut out[..k],
+        marks: &mut out_marks[..m],
+    };
+    let outcome = fee_est::published_depth_rates(&lists, &mut published);
+    put_left(to, outcome, published.as_marked())
 }
 
 // Two rates for a depth.

@@ -4,10 +4,17 @@ use Rattle.rbitcoin_mempool.specs.Rates.{given, mark_of, number_of}
 use Rattle.rbitcoin_net.specs.declared.fee_history.HistoricalFeeBlock.{HistoricalFeeBlock}
 use Rattle.rbitcoin_net.specs.Lent.{rate_of}
 use Rattle.rbitcoin_net.specs.Search as search
+use Rattle.std.specs.Prelude.{cond, List}
+use Rattle.std.proofs.Math.Option.{Option, none, some}
+use Rattle.exports.specs.declared.history.BlockHash.{BlockHash}
 
 -- the block of a mark, 1 for a rate that is there, a rate and a byte count
 abbrev pub block_of : ℕ → ℕ → ℕ → HistoricalFeeBlock
 block_of mark rate bytes = record { p10_sat_kvb = rate_of mark rate; txstat_bytes = bytes }
+
+-- a hash that is there, or none
+abbrev pub hash_in : BlockHash → Option (List ℕ)
+hash_in h = cond h.there (some h.bytes) none
 
 -- the answer to a question for a block: the refusal's number or 0, whether the height is held, and the block's mark, rate and bytes or 0
 abbrev pub refusal_of : search.Looked → ℕ

@@ -1,11 +1,12 @@
 // The functions of edges and capacity.
 ghost use Rattle.std.specs.Prelude.{◌≡◌};
 ghost use Rattle.rbitcoin_mempool.specs.Edges.{flow_bucket_edges, bucket_index, first_bucket_above};
-ghost use Rattle.rbitcoin_mempool.specs.Capacity.{capacity_wu, horizon_secs, inflow_horizon_secs, inclusion_confidence, effective_capacity_wu, inflow_suffix_wu, min_rate_for_capacity};
+ghost use Rattle.rbitcoin_mempool.specs.Capacity.{capacity_wu, horizon_secs, inflow_horizon_secs, inclusion_confidence};
+ghost use Rattle.rbitcoin_mempool.specs.Capacity.{effective_capacity_wu, inflow_suffix_wu, min_rate_for_capacity};
 ghost use Rattle.rbitcoin_mempool.specs.Percentile.{percentile_sat};
 ghost use Rattle.exports.specs.Fields.{Fields};
 
-use crate::rate::{RateFields, rate_fields};
+use crate::rate::RateFields;
 use rbitcoin_mempool::fee_est;
 
 #[unsafe(no_mangle)]
@@ -99,14 +100,15 @@ pub extern "C" fn juleyomu_min_rate_for_capacity(
     inflow: &[u64],
     n: u32,
 ) -> RateFields
-    ensures { Fields (min_rate_for_capacity candidates.now stock.now inflow.now n) result.refusal result.mark result.rate }
+    ensures { let a = min_rate_for_capacity candidates.now stock.now inflow.now n in
+        Fields a result.refusal result.mark result.rate }
 {
-    rate_fields(fee_est::min_rate_for_capacity(candidates, stock, inflow, n))
+    fee_est::min_rate_for_capacity(candidates, stock, inflow, n).into()
 }
 
 #[unsafe(no_mangle)]
 pub extern "C" fn juleyomu_percentile_sat(v: &[u64], pct: u8) -> RateFields
     ensures { Fields (percentile_sat v.now pct) result.refusal result.mark result.rate }
 {
-    rate_fields(fee_est::percentile_sat(v, pct))
+    fee_est::percentile_sat(v, pct).into()
 }

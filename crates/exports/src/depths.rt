@@ -1,14 +1,18 @@
 // The functions of depth rates and targets.
 ghost use Rattle.std.specs.Prelude.{◌≡◌, length};
-ghost use Rattle.rbitcoin_mempool.specs.Rates.{given, marked, number_of, mark_of};
-ghost use Rattle.rbitcoin_mempool.specs.Depths.{blend_weight, flow_for_depth, blend_sat_kvb, warmup_blend, depth_rate_sat_kvb, published_depth_rate};
-ghost use Rattle.rbitcoin_mempool.specs.Hold.{enforce_monotone_desc, hold_refusal, held_numbers, held_marks, args_of, loop_refusal, loop_numbers, loop_marks};
+ghost use Rattle.rbitcoin_mempool.specs.Rates.{given, number_of};
+ghost use Rattle.rbitcoin_mempool.specs.Depths.{blend_weight, flow_for_depth, blend_sat_kvb, warmup_blend};
+ghost use Rattle.rbitcoin_mempool.specs.Depths.{depth_rate_sat_kvb, published_depth_rate};
+ghost use Rattle.rbitcoin_mempool.specs.Hold.{enforce_monotone_desc, hold_refusal, held_numbers, held_marks};
+ghost use Rattle.rbitcoin_mempool.specs.Hold.{args_of, loop_refusal, loop_numbers, loop_marks};
 ghost use Rattle.rbitcoin_mempool.specs.Target.{lerp_sat_kvb, fee_at_target_sat_kvb};
 ghost use Rattle.exports.specs.Fields.{Fields};
+ghost use Rattle.exports.specs.Marks.{Marks, rate_in};
 
-use crate::rate::{RateFields, rate_fields, refusal_number};
+use crate::rate::{RateFields, refusal_number};
 use rbitcoin_mempool::answer::Rate;
 use rbitcoin_mempool::fee_est;
+use rbitcoin_mempool::fee_est::{DepthLists, Marked, MarkedMut};
 
 // A rate that may be missing: the mark 1 and its number where it is there. As an argument it is
 // missing under any other mark; as a result it is then 0 and 0.
@@ -19,21 +23,22 @@ pub struct MarkedRate {
     pub rate: u64,
 }
 
-fn rate_of(m: MarkedRate) -> Rate
-    ensures { given result ≡ marked m.rate m.mark }
-{
-    if m.mark == 1 {
-        return Rate::There(m.rate);
+impl From<MarkedRate> for Rate {
+    ghost from_gives = { λ m rate. given rate ≡ rate_in m };
+
+    fn from(m: MarkedRate) -> Rate {
+        if m.mark == 1 { Some(m.rate) } else { None }
     }
-    Rate::Missing
 }
 
-fn marked_rate(rate: Rate) -> MarkedRate
-    ensures { (result.mark ≡ mark_of (given rate)) × (result.rate ≡ number_of (given rate)) }
-{
-    match rate {
-        Rate::There(rate) => MarkedRate { mark: 1, rate },
-        Rate::Missing => MarkedRate { mark: 0, rate: 0 },
+impl From<Rate> for MarkedRate {
+    ghost from_gives = { λ rate m. Marks (given rate) m };
+
+    fn from(rate: Rate) -> MarkedRate {
+        match rate {
+            Some(rate) => MarkedRate { mark: 1, rate },
+            None => MarkedRate { mark: 0, rate: 0 },
+        }
     }
 }
 
@@ -50,18 +55,16 @@ pub extern "C" fn juleyomu_flow_for_depth(
     frontier: MarkedRate,
     n: u32,
 ) -> MarkedRate
-    ensures mark_value { result.mark ≡ mark_of (flow_for_depth (marked projected.rate projected.mark) (marked frontier.rate frontier.mark) n) }
-    ensures rate_value { result.rate ≡ number_of (flow_for_depth (marked projected.rate projected.mark) (marked frontier.rate frontier.mark) n) }
+    ensures { Marks (flow_for_depth (rate_in projected) (rate_in frontier) n) result }
 {
-    marked_rate(fee_est::flow_for_depth(rate_of(projected), rate_of(frontier), n))
+    fee_est::flow_for_depth(projected.into(), frontier.into(), n).into()
 }
 
 #[unsafe(no_mangle)]
 pub extern "C" fn juleyomu_blend_sat_kvb(flow: MarkedRate, hist: MarkedRate, n: u32) -> MarkedRate
-    ensures mark_value { result.mark ≡ mark_of (blend_sat_kvb (marked flow.rate flow.mark) (marked hist.rate hist.mark) n) }
-    ensures rate_value { result.rate ≡ number_of (blend_sat_kvb (marked flow.rate flow.mark) (marked hist.rate hist.mark) n) }
+    ensures { Marks (blend_sat_kvb (rate_in flow) (rate_in hist) n) result }
 {
-    marked_rate(fee_est::blend_sat_kvb(rate_of(flow), rate_of(hist), n))
+    fee_est::blend_sat_kvb(flow.into(), hist.into(), n).into()
 }
 
 #[unsafe(no_mangle)]
@@ -70,10 +73,9 @@ pub extern "C" fn juleyomu_warmup_blend(
     cold: MarkedRate,
     warm: MarkedRate,
 ) -> MarkedRate
-    ensures mark_value { result.mark ≡ mark_of (warmup_blend alpha (marked cold.rate cold.mark) (marked warm.rate warm.mark)) }
-    ensures rate_value { result.rate ≡ number_of (warmup_blend alpha (marked cold.rate cold.mark) (marked warm.rate warm.mark)) }
+    ensures { Marks (warmup_blend alpha (rate_in cold) (rate_in warm)) result }
 {
-    marked_rate(fee_est::warmup_blend(alpha, rate_of(cold), rate_of(warm)))
+    fee_est::warmup_blend(alpha, cold.into(), warm.into()).into()
 }
 
 // The warm and the cold case by calls of their own, so that the compiler keeps what each needs alone.
@@ -85,16 +87,15 @@ pub extern "C" fn juleyomu_depth_rate_sat_kvb(
     frontier: MarkedRate,
     hist: MarkedRate,
 ) -> MarkedRate
-    ensures mark_value { result.mark ≡ mark_of (depth_rate_sat_kvb n flow_warm (marked flow.rate flow.mark) (marked frontier.rate frontier.mark) (marked hist.rate hist.mark)) }
-    ensures rate_value { result.rate ≡ number_of (depth_rate_sat_kvb n flow_warm (marked flow.rate flow.mark) (marked frontier.rate frontier.mark) (marked hist.rate hist.mark)) }
+    ensures { Marks (depth_rate_sat_kvb n flow_warm (rate_in flow) (rate_in frontier) (rate_in hist)) result }
 {
-    let f = rate_of(flow);
-    let r = rate_of(frontier);
-    let h = rate_of(hist);
+    let f: Rate = flow.into();
+    let r: Rate = frontier.into();
+    let h: Rate = hist.into();
     if flow_warm {
-        return marked_rate(fee_est::depth_rate_sat_kvb(n, true, f, r, h));
+        return fee_est::depth_rate_sat_kvb(n, true, f, r, h).into();
     }
-    marked_rate(fee_est::depth_rate_sat_kvb(n, false, f, r, h))
+    fee_est::depth_rate_sat_kvb(n, false, f, r, h).into()
 }
 
 #[unsafe(no_mangle)]
@@ -106,17 +107,18 @@ pub extern "C" fn juleyomu_published_depth_rate(
     hist: MarkedRate,
     confirm: MarkedRate,
 ) -> MarkedRate
-    ensures mark_value { result.mark ≡ mark_of (published_depth_rate n alpha (marked flow.rate flow.mark) (marked frontier.rate frontier.mark) (marked hist.rate hist.mark) (marked confirm.rate confirm.mark)) }
-    ensures rate_value { result.rate ≡ number_of (published_depth_rate n alpha (marked flow.rate flow.mark) (marked frontier.rate frontier.mark) (marked hist.rate hist.mark) (marked confirm.rate confirm.mark)) }
+    ensures { let of_rest = published_depth_rate n alpha (rate_in flow) (rate_in frontier) in
+        Marks (of_rest (rate_in hist) (rate_in confirm)) result }
 {
-    marked_rate(fee_est::published_depth_rate(
+    fee_est::published_depth_rate(
         n,
         alpha,
-        rate_of(flow),
-        rate_of(frontier),
-        rate_of(hist),
-        rate_of(confirm),
-    ))
+        flow.into(),
+        frontier.into(),
+        hist.into(),
+        confirm.into(),
+    )
+    .into()
 }
 
 #[unsafe(no_mangle)]
@@ -132,7 +134,11 @@ pub extern "C" fn juleyomu_hold_defined_then_monotone(rates: &mut [u64], marks: 
     ensures rates_after { rates.new ≡ held_numbers rates.old marks.old }
     ensures marks_after { marks.new ≡ held_marks rates.old marks.old }
 {
-    refusal_number(fee_est::hold_defined_then_monotone(rates, marks))
+    let mut held = MarkedMut {
+        numbers: rates,
+        marks,
+    };
+    refusal_number(fee_est::hold_defined_then_monotone(&mut held))
 }
 
 #[unsafe(no_mangle)]
@@ -149,23 +155,38 @@ pub extern "C" fn juleyomu_published_depth_rates(
     out: &mut [u64],
     out_marks: &mut [u8],
 ) -> u8
-    ensures value { result ≡ number_of (loop_refusal (args_of depths.now projected.now projected_marks.now frontier.now frontier_marks.now history.now history_marks.now (marked confirm.rate confirm.mark) alpha) (length out.old) (length out_marks.old)) }
-    ensures out_after { out.new ≡ loop_numbers (args_of depths.now projected.now projected_marks.now frontier.now frontier_marks.now history.now history_marks.now (marked confirm.rate confirm.mark) alpha) out.old out_marks.old }
-    ensures out_marks_after { out_marks.new ≡ loop_marks (args_of depths.now projected.now projected_marks.now frontier.now frontier_marks.now history.now history_marks.now (marked confirm.rate confirm.mark) alpha) out.old out_marks.old }
+    ensures value { let a = args_of depths.now projected.now projected_marks.now
+        frontier.now frontier_marks.now history.now history_marks.now (rate_in confirm) alpha in
+        result ≡ number_of (loop_refusal a (length out.old) (length out_marks.old)) }
+    ensures out_after { let a = args_of depths.now projected.now projected_marks.now
+        frontier.now frontier_marks.now history.now history_marks.now (rate_in confirm) alpha in
+        out.new ≡ loop_numbers a out.old out_marks.old }
+    ensures out_marks_after { let a = args_of depths.now projected.now projected_marks.now
+        frontier.now frontier_marks.now history.now history_marks.now (rate_in confirm) alpha in
+        out_marks.new ≡ loop_marks a out.old out_marks.old }
 {
-    refusal_number(fee_est::published_depth_rates(
+    let lists = DepthLists {
         depths,
-        projected,
-        projected_marks,
-        frontier,
-        frontier_marks,
-        history,
-        history_marks,
-        rate_of(confirm),
+        projected: Marked {
+            numbers: projected,
+            marks: projected_marks,
+        },
+        frontier: Marked {
+            numbers: frontier,
+            marks: frontier_marks,
+        },
+        history: Marked {
+            numbers: history,
+            marks: history_marks,
+        },
+        confirm: confirm.into(),
         alpha,
-        out,
-        out_marks,
-    ))
+    };
+    let mut published = MarkedMut {
+        numbers: out,
+        marks: out_marks,
+    };
+    refusal_number(fee_est::published_depth_rates(&lists, &mut published))
 }
 
 #[unsafe(no_mangle)]
@@ -182,7 +203,12 @@ pub extern "C" fn juleyomu_fee_at_target_sat_kvb(
     marks: &[u8],
     target: u32,
 ) -> RateFields
-    ensures { Fields (fee_at_target_sat_kvb depths.now rates.now marks.now target) result.refusal result.mark result.rate }
+    ensures { let a = fee_at_target_sat_kvb depths.now rates.now marks.now target in
+        Fields a result.refusal result.mark result.rate }
 {
-    rate_fields(fee_est::fee_at_target_sat_kvb(depths, rates, marks, target))
+    let rates = Marked {
+        numbers: rates,
+        marks,
+    };
+    fee_est::fee_at_target_sat_kvb(depths, rates, target).into()
 }

@@ -11,14 +11,16 @@ ghost use Rattle.rbitcoin_net.specs.Openings.{Opens};
 ghost use Rattle.rbitcoin_net.specs.Rates.{rated, outputs, AnswersRates};
 ghost use Rattle.rbitcoin_net.specs.Readers.{Entries, RecentHashes};
 ghost use Rattle.rbitcoin_net.specs.Search.{looked, get_in};
-ghost use Rattle.exports.specs.Blocks.{block_of, BlockIs};
+ghost use Rattle.exports.specs.Blocks.{block_of, hash_in, BlockIs};
 ghost use Rattle.exports.specs.Counts.{count_number};
 
 use crate::rate::refusal_number;
-use crate::windows::{CountFields, answered, count_fields};
-use rbitcoin_mempool::answer::Rate;
+use crate::windows::{CountFields, answered, one_by_one};
+use rbitcoin_mempool::answer::Refusal;
+use rbitcoin_mempool::fee_analog::{WindowLists, WindowMemory};
+use rbitcoin_net::fee_history;
 use rbitcoin_net::fee_history::{
-    BlockAnswer, BlockHash, FeeHistory, HistoricalFeeBlock, HistoryUpdate,
+    FeeHistory, HashLists, HashMemory, HistoricalFeeBlock, RowLists, RowMemory,
 };
 
 // A block: the mark 1 and the rate where it is there, and the byte count. As an argument the rate is
@@ -29,6 +31,14 @@ pub struct MarkedBlock {
     pub mark: u8,
     pub rate: u64,
     pub bytes: u64,
+}
+
+// A hash, or none.
+#[repr(C)]
+#[derive(Clone, Copy)]
+pub struct BlockHash {
+    pub there: bool,
+    pub bytes: [u8; 32],
 }
 
 // The number of a refusal or 0; whether the height is held, and its block; else zeros.
@@ -48,80 +58,78 @@ pub struct HistoryFields {
     pub state: FeeHistory,
 }
 
-fn block_of(m: MarkedBlock) -> HistoricalFeeBlock
-    ensures { result ≡ block_of m.mark m.rate m.bytes }
-{
-    if m.mark == 1 {
-        return HistoricalFeeBlock {
-            p10_sat_kvb: Rate::There(m.rate),
+impl From<MarkedBlock> for HistoricalFeeBlock {
+    ghost from_gives = { λ m b. b ≡ block_of m.mark m.rate m.bytes };
+
+    fn from(m: MarkedBlock) -> HistoricalFeeBlock {
+        HistoricalFeeBlock {
+            p10_sat_kvb: (m.mark == 1).then_some(m.rate),
             txstat_bytes: m.bytes,
-        };
-    }
-    HistoricalFeeBlock {
-        p10_sat_kvb: Rate::Missing,
-        txstat_bytes: m.bytes,
+        }
     }
 }
 
-fn marked_block(b: HistoricalFeeBlock) -> MarkedBlock
-    ensures { (result.mark ≡ mark_of (given b.p10_sat_kvb)) × (result.rate ≡ number_of (given b.p10_sat_kvb)) × (result.bytes ≡ b.txstat_bytes) }
-{
-    let rate = b.p10_sat_kvb;
-    let bytes = b.txstat_bytes;
-    match rate {
-        Rate::There(rate) => MarkedBlock {
-            mark: 1,
-            rate,
-            bytes,
-        },
-        Rate::Missing => MarkedBlock {
-            mark: 0,
-            rate: 0,
-            bytes,
-        },
+impl From<BlockHash> for Option<fee_history::BlockHash> {
+    ghost from_gives = { λ h hash. hash_of hash ≡ hash_in h };
+
+    fn from(h: BlockHash) -> Option<fee_history::BlockHash> {
+        let bytes = h.bytes;
+        if h.there {
+            Some(fee_history::BlockHash { bytes })
+        } else {
+            None
+        }
     }
 }
 
-fn no_block() -> MarkedBlock
-    ensures { (result.mark ≡ 0) × (result.rate ≡ 0) × (result.bytes ≡ 0) }
-{
-    MarkedBlock {
-        mark: 0,
-        rate: 0,
-        bytes: 0,
+impl From<HistoricalFeeBlock> for MarkedBlock {
+    ghost from_gives = { λ b m. let r = given b.p10_sat_kvb in
+        (m.mark ≡ mark_of r) × (m.rate ≡ number_of r) × (m.bytes ≡ b.txstat_bytes) };
+
+    fn from(b: HistoricalFeeBlock) -> MarkedBlock {
+        match b.p10_sat_kvb {
+            Some(rate) => MarkedBlock {
+                mark: 1,
+                rate,
+                bytes: b.txstat_bytes,
+            },
+            None => MarkedBlock {
+                mark: 0,
+                rate: 0,
+                bytes: b.txstat_bytes,
+            },
+        }
     }
 }
 
-fn block_fields(a: BlockAnswer) -> BlockFields
-    ensures { BlockIs (looked a) result.refusal result.held result.block.mark result.block.rate result.block.bytes }
-{
-    match a {
-        BlockAnswer::Held(block) => BlockFields {
-            refusal: 0,
-            held: true,
-            block: marked_block(block),
-        },
-        BlockAnswer::Nothing => BlockFields {
-            refusal: 0,
-            held: false,
-            block: no_block(),
-        },
-        BlockAnswer::Refused(refusal) => BlockFields {
-            refusal,
-            held: false,
-            block: no_block(),
-        },
-    }
-}
+const NO_BLOCK: MarkedBlock = MarkedBlock {
+    mark: 0,
+    rate: 0,
+    bytes: 0,
+};
 
-// The same elements, each by itself.
-fn numbers_one_by_one(t: [u64; 16]) -> [u64; 16]
-    ensures { result ≡ t }
-{
-    [
-        t[0], t[1], t[2], t[3], t[4], t[5], t[6], t[7], t[8], t[9], t[10], t[11], t[12], t[13],
-        t[14], t[15],
-    ]
+impl From<Result<Option<HistoricalFeeBlock>, Refusal>> for BlockFields {
+    ghost from_gives = { λ a fields. let b = fields.block in BlockIs (looked a) fields.refusal fields.held b.mark b.rate b.bytes };
+
+    fn from(a: Result<Option<HistoricalFeeBlock>, Refusal>) -> BlockFields {
+        match a {
+            Ok(Some(block)) => BlockFields {
+                refusal: 0,
+                held: true,
+                block: block.into(),
+            },
+            Ok(None) => BlockFields {
+                refusal: 0,
+                held: false,
+                block: NO_BLOCK,
+            },
+            Err(refusal) => BlockFields {
+                refusal: refusal.into(),
+                held: false,
+                block: NO_BLOCK,
+            },
+        }
+    }
 }
 
 // The same state for an answer, as `answered` has the windows'.
@@ -140,19 +148,18 @@ fn answered_history(s: FeeHistory) -> FeeHistory
         budget: s.budget,
         hashes: s.hashes,
         kept: s.kept,
-        kept_numbers: numbers_one_by_one(kept_numbers),
+        kept_numbers: one_by_one(kept_numbers),
         kept_marks,
     }
 }
 
-fn history_fields(u: HistoryUpdate) -> HistoryFields
-    ensures { (result.refusal ≡ verdict_number (verdict u.outcome)) × (result.state ≡ u.state) }
+fn history_fields(outcome: Result<(), Refusal>, s: FeeHistory) -> HistoryFields
+    ensures refusal { result.refusal ≡ verdict_number (verdict outcome) }
+    ensures state { result.state ≡ s }
 {
-    let outcome = u.outcome;
-    let state = answered_history(u.state);
     HistoryFields {
         refusal: refusal_number(outcome),
-        state,
+        state: answered_history(s),
     }
 }
 
@@ -171,22 +178,29 @@ pub extern "C" fn juleyomu_history_new(
     befores: &[f64],
     aheads: &[u64],
 ) -> HistoryFields
-    ensures { Opens budget targets.now capacity (lent (rows heights.now marks.now rates.now sizes.now) (hashes hash_heights.now hash_bytes.now) hurdles.now befores.now aheads.now) (verdict_of result.refusal) result.state }
+    ensures { let rows = rows heights.now marks.now rates.now sizes.now in
+        let memory = lent rows (hashes hash_heights.now hash_bytes.now) hurdles.now befores.now aheads.now in
+        Opens budget targets.now capacity memory (verdict_of result.refusal) result.state }
 {
-    history_fields(FeeHistory::new(
-        budget,
-        targets,
-        capacity,
+    let rows = RowLists {
         heights,
         marks,
         rates,
         sizes,
-        hash_heights,
-        hash_bytes,
+    };
+    let hashes = HashLists {
+        heights: hash_heights,
+        bytes: hash_bytes,
+    };
+    let windows = WindowLists {
         hurdles,
         befores,
         aheads,
-    ))
+    };
+    match FeeHistory::new(budget, targets, capacity, rows, hashes, windows) {
+        Ok(s) => history_fields(Ok(()), s),
+        Err(refusal) => history_fields(Err(refusal), FeeHistory::unopened()),
+    }
 }
 
 #[unsafe(no_mangle)]
@@ -198,77 +212,116 @@ pub extern "C" fn juleyomu_history_get(
     rates: &[u64],
     sizes: &[u64],
 ) -> BlockFields
-    ensures { BlockIs (get_in state (rows heights.now marks.now rates.now sizes.now) height) result.refusal result.held result.block.mark result.block.rate result.block.bytes }
+    ensures { let answer = get_in state (rows heights.now marks.now rates.now sizes.now) height in
+        BlockIs answer result.refusal result.held result.block.mark result.block.rate result.block.bytes }
 {
-    block_fields(state.get(height, heights, marks, rates, sizes))
-}
-
-#[unsafe(no_mangle)]
-pub extern "C" fn juleyomu_history_insert(
-    state: FeeHistory,
-    height: u32,
-    block: MarkedBlock,
-    hash: BlockHash,
-    heights: &mut [u32],
-    marks: &mut [u8],
-    rates: &mut [u64],
-    sizes: &mut [u64],
-    hash_heights: &mut [u32],
-    hash_bytes: &mut [u8],
-    hurdles: &mut [u64],
-    befores: &mut [f64],
-    aheads: &mut [u64],
-) -> HistoryFields
-    ensures { Inserts height (block_of block.mark block.rate block.bytes) (hash_of hash) (whole state (lent (rows heights.old marks.old rates.old sizes.old) (hashes hash_heights.old hash_bytes.old) hurdles.old befores.old aheads.old)) (verdict_of result.refusal) (whole result.state (lent (rows heights.new marks.new rates.new sizes.new) (hashes hash_heights.new hash_bytes.new) hurdles.new befores.new aheads.new)) }
-{
-    history_fields(state.insert(
-        height,
-        block_of(block),
-        hash,
+    let rows = RowLists {
         heights,
         marks,
         rates,
         sizes,
-        hash_heights,
-        hash_bytes,
-        hurdles,
-        befores,
-        aheads,
-    ))
+    };
+    state.get(height, rows).into()
 }
 
 #[unsafe(no_mangle)]
-pub extern "C" fn juleyomu_history_insert_if_absent(
+pub extern "C" fn juleyomu_history_insert<'a>(
     state: FeeHistory,
     height: u32,
     block: MarkedBlock,
     hash: BlockHash,
-    heights: &mut [u32],
-    marks: &mut [u8],
-    rates: &mut [u64],
-    sizes: &mut [u64],
-    hash_heights: &mut [u32],
-    hash_bytes: &mut [u8],
-    hurdles: &mut [u64],
-    befores: &mut [f64],
-    aheads: &mut [u64],
+    heights: &'a mut [u32],
+    marks: &'a mut [u8],
+    rates: &'a mut [u64],
+    sizes: &'a mut [u64],
+    hash_heights: &'a mut [u32],
+    hash_bytes: &'a mut [u8],
+    hurdles: &'a mut [u64],
+    befores: &'a mut [f64],
+    aheads: &'a mut [u64],
 ) -> HistoryFields
-    ensures { InsertsIfAbsent height (block_of block.mark block.rate block.bytes) (hash_of hash) (whole state (lent (rows heights.old marks.old rates.old sizes.old) (hashes hash_heights.old hash_bytes.old) hurdles.old befores.old aheads.old)) (verdict_of result.refusal) (whole result.state (lent (rows heights.new marks.new rates.new sizes.new) (hashes hash_heights.new hash_bytes.new) hurdles.new befores.new aheads.new)) }
+    ensures { let rows_old = rows heights.old marks.old rates.old sizes.old in
+        let rows_new = rows heights.new marks.new rates.new sizes.new in
+        let old = lent rows_old (hashes hash_heights.old hash_bytes.old) hurdles.old befores.old aheads.old in
+        let new = lent rows_new (hashes hash_heights.new hash_bytes.new) hurdles.new befores.new aheads.new in
+        Inserts height (block_of block.mark block.rate block.bytes) (hash_in hash)
+        (whole state old) (verdict_of result.refusal) (whole result.state new) }
 {
-    history_fields(state.insert_if_absent(
-        height,
-        block_of(block),
-        hash,
+    let mut rows = RowMemory {
         heights,
         marks,
         rates,
         sizes,
-        hash_heights,
-        hash_bytes,
+    };
+    let mut hashes = HashMemory {
+        heights: hash_heights,
+        bytes: hash_bytes,
+    };
+    let mut windows = WindowMemory {
         hurdles,
         befores,
         aheads,
-    ))
+    };
+    let mut s = state;
+    let outcome = s.insert(
+        height,
+        block.into(),
+        hash.into(),
+        &mut rows,
+        &mut hashes,
+        &mut windows,
+    );
+    history_fields(outcome, s)
+}
+
+#[unsafe(no_mangle)]
+pub extern "C" fn juleyomu_history_insert_if_absent<'a>(
+    state: FeeHistory,
+    height: u32,
+    block: MarkedBlock,
+    hash: BlockHash,
+    heights: &'a mut [u32],
+    marks: &'a mut [u8],
+    rates: &'a mut [u64],
+    sizes: &'a mut [u64],
+    hash_heights: &'a mut [u32],
+    hash_bytes: &'a mut [u8],
+    hurdles: &'a mut [u64],
+    befores: &'a mut [f64],
+    aheads: &'a mut [u64],
+) -> HistoryFields
+    ensures { let rows_old = rows heights.old marks.old rates.old sizes.old in
+        let rows_new = rows heights.new marks.new rates.new sizes.new in
+        let old = lent rows_old (hashes hash_heights.old hash_bytes.old) hurdles.old befores.old aheads.old in
+        let new = lent rows_new (hashes hash_heights.new hash_bytes.new) hurdles.new befores.new aheads.new in
+        InsertsIfAbsent height (block_of block.mark block.rate block.bytes) (hash_in hash)
+        (whole state old) (verdict_of result.refusal) (whole result.state new) }
+{
+    let mut rows = RowMemory {
+        heights,
+        marks,
+        rates,
+        sizes,
+    };
+    let mut hashes = HashMemory {
+        heights: hash_heights,
+        bytes: hash_bytes,
+    };
+    let mut windows = WindowMemory {
+        hurdles,
+        befores,
+        aheads,
+    };
+    let mut s = state;
+    let outcome = s.insert_if_absent(
+        height,
+        block.into(),
+        hash.into(),
+        &mut rows,
+        &mut hashes,
+        &mut windows,
+    );
+    history_fields(outcome, s)
 }
 
 #[unsafe(no_mangle)]
@@ -282,86 +335,109 @@ pub extern "C" fn juleyomu_history_truncate_above(
     hash_heights: &[u32],
     hash_bytes: &[u8],
 ) -> HistoryFields
-    ensures { Truncates height (rows heights.now marks.now rates.now sizes.now) (hashes hash_heights.now hash_bytes.now) state (verdict_of result.refusal) result.state }
+    ensures { let rows = rows heights.now marks.now rates.now sizes.now in
+        Truncates height rows (hashes hash_heights.now hash_bytes.now) state (verdict_of result.refusal) result.state }
 {
-    history_fields(state.truncate_above(
-        height,
+    let rows = RowLists {
         heights,
         marks,
         rates,
         sizes,
-        hash_heights,
-        hash_bytes,
-    ))
+    };
+    let hashes = HashLists {
+        heights: hash_heights,
+        bytes: hash_bytes,
+    };
+    let mut s = state;
+    let outcome = s.truncate_above(height, rows, hashes);
+    history_fields(outcome, s)
 }
 
 #[unsafe(no_mangle)]
-pub extern "C" fn juleyomu_history_rates(
+pub extern "C" fn juleyomu_history_rates<'a>(
     state: FeeHistory,
     heights: &[u32],
     marks: &[u8],
     rates: &[u64],
     sizes: &[u64],
-    hurdles: &mut [u64],
-    befores: &mut [f64],
-    aheads: &mut [u64],
-    scratch: &mut [u64],
-    out_numbers: &mut [u64],
-    out_marks: &mut [u8],
+    hurdles: &'a mut [u64],
+    befores: &'a mut [f64],
+    aheads: &'a mut [u64],
+    scratch: &'a mut [u64],
+    out_numbers: &'a mut [u64],
+    out_marks: &'a mut [u8],
 ) -> HistoryFields
-    ensures { AnswersRates (rows heights.now marks.now rates.now sizes.now) (rated state hurdles.old befores.old aheads.old) (outputs scratch.old out_numbers.old out_marks.old) (verdict_of result.refusal) (rated result.state hurdles.new befores.new aheads.new) (outputs scratch.new out_numbers.new out_marks.new) }
+    ensures { AnswersRates (rows heights.now marks.now rates.now sizes.now)
+        (rated state hurdles.old befores.old aheads.old) (outputs scratch.old out_numbers.old out_marks.old)
+        (verdict_of result.refusal)
+        (rated result.state hurdles.new befores.new aheads.new) (outputs scratch.new out_numbers.new out_marks.new) }
 {
-    history_fields(state.rates(
+    let rows = RowLists {
         heights,
         marks,
         rates,
         sizes,
+    };
+    let mut windows = WindowMemory {
         hurdles,
         befores,
         aheads,
-        scratch,
-        out_numbers,
-        out_marks,
-    ))
+    };
+    let mut s = state;
+    let outcome = s.rates(rows, &mut windows, scratch, out_numbers, out_marks);
+    history_fields(outcome, s)
 }
 
 #[unsafe(no_mangle)]
-pub extern "C" fn juleyomu_history_entries(
+pub extern "C" fn juleyomu_history_entries<'a>(
     state: FeeHistory,
     heights: &[u32],
     marks: &[u8],
     rates: &[u64],
     sizes: &[u64],
-    out_heights: &mut [u32],
-    out_marks: &mut [u8],
-    out_rates: &mut [u64],
-    out_sizes: &mut [u64],
+    out_heights: &'a mut [u32],
+    out_marks: &'a mut [u8],
+    out_rates: &'a mut [u64],
+    out_sizes: &'a mut [u64],
 ) -> CountFields
-    ensures entries { Entries state (rows heights.now marks.now rates.now sizes.now) (rows out_heights.old out_marks.old out_rates.old out_sizes.old) (rows out_heights.new out_marks.new out_rates.new out_sizes.new) (counted_of result.refusal result.count) }
+    ensures entries { Entries state (rows heights.now marks.now rates.now sizes.now)
+        (rows out_heights.old out_marks.old out_rates.old out_sizes.old)
+        (rows out_heights.new out_marks.new out_rates.new out_sizes.new) (counted_of result.refusal result.count) }
     ensures count_value { result.count ≡ count_number (counted_of result.refusal result.count) }
 {
-    count_fields(state.entries(
+    let rows = RowLists {
         heights,
         marks,
         rates,
         sizes,
-        out_heights,
-        out_marks,
-        out_rates,
-        out_sizes,
-    ))
+    };
+    let mut out = RowMemory {
+        heights: out_heights,
+        marks: out_marks,
+        rates: out_rates,
+        sizes: out_sizes,
+    };
+    state.entries(rows, &mut out).into()
 }
 
 #[unsafe(no_mangle)]
-pub extern "C" fn juleyomu_history_recent_hashes(
+pub extern "C" fn juleyomu_history_recent_hashes<'a>(
     state: FeeHistory,
     heights: &[u32],
     bytes: &[u8],
-    out_heights: &mut [u32],
-    out_bytes: &mut [u8],
+    out_heights: &'a mut [u32],
+    out_bytes: &'a mut [u8],
 ) -> CountFields
-    ensures recent_hashes { RecentHashes state (hashes heights.now bytes.now) (hashes out_heights.old out_bytes.old) (hashes out_heights.new out_bytes.new) (counted_of result.refusal result.count) }
+    ensures recent_hashes { RecentHashes state (hashes heights.now bytes.now)
+        (hashes out_heights.old out_bytes.old) (hashes out_heights.new out_bytes.new)
+        (counted_of result.refusal result.count) }
     ensures count_value { result.count ≡ count_number (counted_of result.refusal result.count) }
 {
-    count_fields(state.recent_hashes(heights, bytes, out_heights, out_bytes))
+    let mut out = HashMemory {
+        heights: out_heights,
+        bytes: out_bytes,
+    };
+    state
+        .recent_hashes(HashLists { heights, bytes }, &mut out)
+        .into()
 }

@@ -1,6 +1,7 @@
 // The fee flow meter.
 ghost use Rattle.std.specs.Prelude.{◌≡◌};
-ghost use Rattle.rbitcoin_mempool.specs.Meter.{half_life_secs, flow_full_wu, new_meter, decay_to, fullness, admit_rates_wu_s, note_admit};
+ghost use Rattle.rbitcoin_mempool.specs.Meter.{half_life_secs, flow_full_wu, new_meter, decay_to, fullness};
+ghost use Rattle.rbitcoin_mempool.specs.Meter.{admit_rates_wu_s, note_admit};
 
 use rbitcoin_mempool::fee_flow;
 use rbitcoin_mempool::fee_flow::FeeFlowMeter;

@@ -1,10 +1,10 @@
 // An answer for a caller in another language.
 ghost use Rattle.std.specs.Prelude.{◌≡◌};
-ghost use Rattle.rbitcoin_mempool.specs.Answer.{answer};
+ghost use Rattle.rbitcoin_mempool.specs.Answer.{answer, found};
 ghost use Rattle.rbitcoin_mempool.specs.Outcome.{verdict, verdict_number};
 ghost use Rattle.exports.specs.Fields.{Fields};
 
-use rbitcoin_mempool::answer::{Outcome, RateAnswer};
+use rbitcoin_mempool::answer::{Rate, Refusal};
 
 // The number of a refusal or 0; 1 where a rate is there and 0 where it is missing; the rate or 0.
 #[repr(C)]
@@ -16,33 +16,54 @@ pub struct RateFields {
 }
 
 // The number of a refusal or 0.
-pub(crate) fn refusal_number(o: Outcome) -> u8
-    ensures { result ≡ verdict_number (verdict o) }
+pub(crate) fn refusal_number(outcome: Result<(), Refusal>) -> u8
+    ensures { result ≡ verdict_number (verdict outcome) }
 {
-    match o {
-        Outcome::Done => 0,
-        Outcome::Refused(refusal) => refusal,
+    match outcome {
+        Ok(()) => 0,
+        Err(refusal) => refusal.into(),
     }
 }
 
-pub(crate) fn rate_fields(a: RateAnswer) -> RateFields
-    ensures { Fields (answer a) result.refusal result.mark result.rate }
-{
-    match a {
-        RateAnswer::Found(rate) => RateFields {
-            refusal: 0,
-            mark: 1,
-            rate,
-        },
-        RateAnswer::Nothing => RateFields {
-            refusal: 0,
-            mark: 0,
-            rate: 0,
-        },
-        RateAnswer::Refused(refusal) => RateFields {
-            refusal,
-            mark: 0,
-            rate: 0,
-        },
+impl From<Result<Rate, Refusal>> for RateFields {
+    ghost from_gives = { λ a fields. Fields (answer a) fields.refusal fields.mark fields.rate };
+
+    fn from(a: Result<Rate, Refusal>) -> RateFields {
+        match a {
+            Ok(Some(rate)) => RateFields {
+                refusal: 0,
+                mark: 1,
+                rate,
+            },
+            Ok(None) => RateFields {
+                refusal: 0,
+                mark: 0,
+                rate: 0,
+            },
+            Err(refusal) => RateFields {
+                refusal: refusal.into(),
+                mark: 0,
+                rate: 0,
+            },
+        }
+    }
+}
+
+impl From<Result<u64, Refusal>> for RateFields {
+    ghost from_gives = { λ a fields. Fields (found a) fields.refusal fields.mark fields.rate };
+
+    fn from(a: Result<u64, Refusal>) -> RateFields {
+        match a {
+            Ok(rate) => RateFields {
+                refusal: 0,
+                mark: 1,
+                rate,
+            },
+            Err(refusal) => RateFields {
+                refusal: refusal.into(),
+                mark: 0,
+                rate: 0,
+            },
+        }
     }
 }

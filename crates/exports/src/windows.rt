@@ -10,10 +10,10 @@ ghost use Rattle.rbitcoin_mempool.specs.Scan.{rate_sat_kvb, ScratchAfter};
 ghost use Rattle.exports.specs.Fields.{Fields};
 ghost use Rattle.exports.specs.Counts.{count_refusal, count_number};
 
-use crate::rate::{RateFields, rate_fields, refusal_number};
-use rbitcoin_mempool::answer::CountAnswer;
+use crate::rate::{RateFields, refusal_number};
+use rbitcoin_mempool::answer::Refusal;
 use rbitcoin_mempool::fee_analog;
-use rbitcoin_mempool::fee_analog::{AnalogHistory, Update};
+use rbitcoin_mempool::fee_analog::{AnalogHistory, WindowLists, WindowMemory};
 
 // The number of a refusal or 0, and the state.
 #[repr(C)]
@@ -32,7 +32,7 @@ pub struct CountFields {
 }
 
 // The same elements, each by itself.
-fn targets_one_by_one(t: [u32; 16]) -> [u32; 16]
+pub(crate) fn one_by_one<T: Copy>(t: [T; 16]) -> [T; 16]
     ensures { result ≡ t }
 {
     [
@@ -48,7 +48,7 @@ pub(crate) fn answered(s: AnalogHistory) -> AnalogHistory
 {
     let targets = s.targets;
     AnalogHistory {
-        targets: targets_one_by_one(targets),
+        targets: one_by_one(targets),
         tracked: s.tracked,
         capacity: s.capacity,
         start: s.start,
@@ -56,23 +56,27 @@ pub(crate) fn answered(s: AnalogHistory) -> AnalogHistory
     }
 }
 
-fn update_fields(u: Update) -> UpdateFields
-    ensures { (result.refusal ≡ verdict_number (verdict u.outcome)) × (result.state ≡ u.state) }
+fn update_fields(outcome: Result<(), Refusal>, s: AnalogHistory) -> UpdateFields
+    ensures refusal { result.refusal ≡ verdict_number (verdict outcome) }
+    ensures state { result.state ≡ s }
 {
-    let outcome = u.outcome;
-    let state = answered(u.state);
     UpdateFields {
         refusal: refusal_number(outcome),
-        state,
+        state: answered(s),
     }
 }
 
-pub(crate) fn count_fields(a: CountAnswer) -> CountFields
-    ensures { (result.refusal ≡ count_refusal (counted a)) × (result.count ≡ count_number (counted a)) }
-{
-    match a {
-        CountAnswer::Count(count) => CountFields { refusal: 0, count },
-        CountAnswer::Refused(refusal) => CountFields { refusal, count: 0 },
+impl From<Result<usize, Refusal>> for CountFields {
+    ghost from_gives = { λ a fields. (fields.refusal ≡ count_refusal (counted a)) × (fields.count ≡ count_number (counted a)) };
+
+    fn from(a: Result<usize, Refusal>) -> CountFields {
+        match a {
+            Ok(count) => CountFields { refusal: 0, count },
+            Err(refusal) => CountFields {
+                refusal: refusal.into(),
+                count: 0,
+            },
+        }
     }
 }
 
@@ -108,7 +112,7 @@ pub extern "C" fn juleyomu_ln_rate(rate: u64) -> f64
 pub extern "C" fn juleyomu_lower_median(values: &[u64]) -> RateFields
     ensures { Fields (lower_median values.now) result.refusal result.mark result.rate }
 {
-    rate_fields(fee_analog::lower_median(values))
+    fee_analog::lower_median(values).into()
 }
 
 #[unsafe(no_mangle)]
@@ -116,7 +120,7 @@ pub extern "C" fn juleyomu_log_quantile(outcomes: &mut [u64], confidence: f64) -
     ensures fields { Fields (log_quantile outcomes.old confidence) result.refusal result.mark result.rate }
     ensures outcomes_after { outcomes.new ≡ log_quantile_leaves outcomes.old confidence }
 {
-    rate_fields(fee_analog::log_quantile(outcomes, confidence))
+    fee_analog::log_quantile(outcomes, confidence).into()
 }
 
 #[unsafe(no_mangle)]
@@ -130,70 +134,108 @@ pub extern "C" fn juleyomu_windows_new(
     ensures refusal_value { result.refusal ≡ open_refusal targets.now capacity (length hurdles.now) (length befores.now) (length aheads.now) }
     ensures state_value { result.state ≡ opened targets.now capacity (length hurdles.now) (length befores.now) (length aheads.now) }
 {
-    update_fields(AnalogHistory::new(targets, capacity, hurdles, befores, aheads))
+    let lists = WindowLists {
+        hurdles,
+        befores,
+        aheads,
+    };
+    match AnalogHistory::new(targets, capacity, lists) {
+        Ok(s) => update_fields(Ok(()), s),
+        Err(refusal) => update_fields(Err(refusal), AnalogHistory::unopened()),
+    }
 }
 
 #[unsafe(no_mangle)]
-pub extern "C" fn juleyomu_windows_push_back(
+#[tactic(auto, using(crate::proofs::Verdicts::number_is))]
+pub extern "C" fn juleyomu_windows_push_back<'a>(
     state: AnalogHistory,
     hurdle: u64,
-    hurdles: &mut [u64],
-    befores: &mut [f64],
-    aheads: &mut [u64],
+    hurdles: &'a mut [u64],
+    befores: &'a mut [f64],
+    aheads: &'a mut [u64],
 ) -> UpdateFields
     ensures refusal_value { result.refusal ≡ push_refusal_of (windows state hurdles.old befores.old aheads.old) }
     ensures aheads_after { windows result.state hurdles.new befores.new aheads.new ≡ push_back_of hurdle (windows state hurdles.old befores.old aheads.old) }
 {
-    update_fields(state.push_back(hurdle, hurdles, befores, aheads))
+    let mut memory = WindowMemory {
+        hurdles,
+        befores,
+        aheads,
+    };
+    let mut s = state;
+    let outcome = s.push_back(hurdle, &mut memory);
+    update_fields(outcome, s)
 }
 
 #[unsafe(no_mangle)]
-pub extern "C" fn juleyomu_windows_push_front(
+#[tactic(auto, using(crate::proofs::Verdicts::number_is))]
+pub extern "C" fn juleyomu_windows_push_front<'a>(
     state: AnalogHistory,
     hurdle: u64,
-    hurdles: &mut [u64],
-    befores: &mut [f64],
-    aheads: &mut [u64],
+    hurdles: &'a mut [u64],
+    befores: &'a mut [f64],
+    aheads: &'a mut [u64],
 ) -> UpdateFields
     ensures refusal_value { result.refusal ≡ push_refusal_of (windows state hurdles.old befores.old aheads.old) }
     ensures aheads_after { windows result.state hurdles.new befores.new aheads.new ≡ push_front_of hurdle (windows state hurdles.old befores.old aheads.old) }
 {
-    update_fields(state.push_front(hurdle, hurdles, befores, aheads))
+    let mut memory = WindowMemory {
+        hurdles,
+        befores,
+        aheads,
+    };
+    let mut s = state;
+    let outcome = s.push_front(hurdle, &mut memory);
+    update_fields(outcome, s)
 }
 
 #[unsafe(no_mangle)]
+#[tactic(auto, using(crate::proofs::Verdicts::number_is))]
 pub extern "C" fn juleyomu_windows_pop_back(state: AnalogHistory) -> UpdateFields
     ensures { (result.refusal ≡ state_refusal state) × (result.state ≡ pop_back_of state) }
 {
-    update_fields(state.pop_back())
+    let mut s = state;
+    let outcome = s.pop_back();
+    update_fields(outcome, s)
 }
 
 #[unsafe(no_mangle)]
+#[tactic(auto, using(crate::proofs::Verdicts::number_is))]
 pub extern "C" fn juleyomu_windows_pop_front(state: AnalogHistory) -> UpdateFields
     ensures { (result.refusal ≡ state_refusal state) × (result.state ≡ pop_front_of state) }
 {
-    update_fields(state.pop_front())
+    let mut s = state;
+    let outcome = s.pop_front();
+    update_fields(outcome, s)
 }
 
 #[unsafe(no_mangle)]
-pub extern "C" fn juleyomu_windows_rebuild(
+#[tactic(auto, using(crate::proofs::Verdicts::number_is))]
+pub extern "C" fn juleyomu_windows_rebuild<'a>(
     state: AnalogHistory,
     from: &[u64],
-    hurdles: &mut [u64],
-    befores: &mut [f64],
-    aheads: &mut [u64],
+    hurdles: &'a mut [u64],
+    befores: &'a mut [f64],
+    aheads: &'a mut [u64],
 ) -> UpdateFields
     ensures refusal_value { result.refusal ≡ rebuild_refusal_of from.now (windows state hurdles.old befores.old aheads.old) }
     ensures aheads_after { windows result.state hurdles.new befores.new aheads.new ≡ rebuilt_of from.now (windows state hurdles.old befores.old aheads.old) }
 {
-    update_fields(state.rebuild(from, hurdles, befores, aheads))
+    let mut memory = WindowMemory {
+        hurdles,
+        befores,
+        aheads,
+    };
+    let mut s = state;
+    let outcome = s.rebuild(from, &mut memory);
+    update_fields(outcome, s)
 }
 
 #[unsafe(no_mangle)]
 pub extern "C" fn juleyomu_windows_pairs(state: AnalogHistory, n: u32) -> CountFields
     ensures { (result.refusal ≡ count_refusal (counted_of (state_refusal state) (pair_count state n))) × (result.count ≡ count_number (counted_of (state_refusal state) (pair_count state n))) }
 {
-    count_fields(state.pairs(n))
+    state.pairs(n).into()
 }
 
 #[unsafe(no_mangle)]
@@ -209,5 +251,10 @@ pub extern "C" fn juleyomu_windows_rate_sat_kvb(
     ensures fields { Fields (rate_sat_kvb (windows state hurdles.now befores.now aheads.now) (length scratch.old) n confidence) result.refusal result.mark result.rate }
     ensures scratch_after { ScratchAfter (rate_sat_kvb (windows state hurdles.now befores.now aheads.now) (length scratch.old) n confidence) scratch.old scratch.new }
 {
-    rate_fields(state.rate_sat_kvb(n, confidence, hurdles, befores, aheads, scratch))
+    let lists = WindowLists {
+        hurdles,
+        befores,
+        aheads,
+    };
+    state.rate_sat_kvb(n, confidence, lists, scratch).into()
 }

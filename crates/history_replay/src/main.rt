@@ -5,9 +5,10 @@
 // connected to a history of 2,304 places; it has two targets.
 #![tactic(auto)]
 
-use rbitcoin_mempool::answer::{CountAnswer, Outcome, Rate};
+use rbitcoin_mempool::answer::Refusal;
+use rbitcoin_mempool::fee_analog::{WindowLists, WindowMemory};
 use rbitcoin_net::fee_history::{
-    BlockAnswer, BlockHash, FeeHistory, HistoricalFeeBlock, HistoryUpdate,
+    BlockHash, FeeHistory, HashLists, HashMemory, HistoricalFeeBlock, RowLists, RowMemory,
 };
 use replay_lines::digests::{Hurdles, digest, mix};
 use replay_lines::put;
@@ -16,33 +17,23 @@ use replay_lines::words::{Low, Words, at_most, copy, word_at};
 use std::io;
 use std::io::Write;
 
-fn refusal_number(outcome: Outcome) -> u64 {
-    match outcome {
-        Outcome::Done => 0,
-        Outcome::Refused(number) => number as u64,
-    }
-}
-
-fn count_of(answer: CountAnswer) -> usize {
-    match answer {
-        CountAnswer::Count(count) => count,
-        CountAnswer::Refused(_) => 0,
-    }
+fn refusal_number(outcome: Result<(), Refusal>) -> u64 {
+    outcome.err().map_or(0, |refusal| refusal as u64)
 }
 
 fn mix_block(digest: u64, block: HistoricalFeeBlock) -> u64 {
     let digest = match block.p10_sat_kvb {
-        Rate::There(rate) => mix(mix(digest, 2), rate),
-        Rate::Missing => mix(digest, 1),
+        Some(rate) => mix(mix(digest, 2), rate),
+        None => mix(digest, 1),
     };
     mix(digest, block.txstat_bytes)
 }
 
-fn mix_found(digest: u64, answer: BlockAnswer) -> u64 {
+fn mix_found(digest: u64, answer: Result<Option<HistoricalFeeBlock>, Refusal>) -> u64 {
     match answer {
-        BlockAnswer::Held(block) => mix_block(digest, block),
-        BlockAnswer::Nothing => mix(digest, 0),
-        BlockAnswer::Refused(number) => mix(digest, 16 + number as u64),
+        Ok(Some(block)) => mix_block(digest, block),
+        Ok(None) => mix(digest, 0),
+        Err(refusal) => mix(digest, 16 + refusal as u64),
     }
 }
 
@@ -79,11 +70,7 @@ impl Call {
     // decimal digits, or with bit 3 the whole word.
     fn block(self) -> HistoricalFeeBlock {
         HistoricalFeeBlock {
-            p10_sat_kvb: if self.code & 4 == 4 {
-                Rate::There(self.word)
-            } else {
-                Rate::Missing
-            },
+            p10_sat_kvb: (self.code & 4 == 4).then_some(self.word),
             txstat_bytes: if self.code & 8 == 8 {
                 self.word
             } else {
@@ -93,16 +80,17 @@ impl Call {
     }
 
     // There if bit 4 of the code is set: the word's bytes four times, each XOR its place.
-    fn hash(self) -> BlockHash {
+    fn hash(self) -> Option<BlockHash> {
         let mut bytes = [0u8; 32];
         let mut x = self.word;
         for (i, byte) in bytes.iter_mut().enumerate() {
             *byte = u8::low(x ^ i as u64);
             x = x.rotate_right(8);
         }
-        BlockHash {
-            there: self.code & 16 == 16,
-            bytes,
+        if self.code & 16 == 16 {
+            Some(BlockHash { bytes })
+        } else {
+            None
         }
     }
 }
@@ -135,49 +123,57 @@ fn zeros() -> Memory {
     }
 }
 
-fn cut(s: FeeHistory, height: u32, m: &mut Memory) -> HistoryUpdate {
-    s.truncate_above(
-        height,
-        &mut m.heights,
-        &mut m.marks,
-        &mut m.rates,
-        &mut m.sizes,
-        &mut m.kept,
-        &mut m.bytes,
-    )
+impl Memory {
+    fn rows(&self) -> RowLists<'_> {
+        RowLists {
+            heights: &self.heights,
+            marks: &self.marks,
+            rates: &self.rates,
+            sizes: &self.sizes,
+        }
+    }
+
+    fn hashes(&self) -> HashLists<'_> {
+        HashLists {
+            heights: &self.kept,
+            bytes: &self.bytes,
+        }
+    }
+
+    fn windows(&self) -> WindowLists<'_> {
+        WindowLists {
+            hurdles: &self.hurdles,
+            befores: &self.befores,
+            aheads: &self.aheads,
+        }
+    }
 }
 
-fn updated(s: FeeHistory, call: Call, m: &mut Memory) -> HistoryUpdate {
+fn updated(s: &mut FeeHistory, call: Call, m: &mut Memory) -> Result<(), Refusal> {
+    let height = call.height();
+    let block = call.block();
+    let hash = call.hash();
+    let mut rows = RowMemory {
+        heights: &mut m.heights,
+        marks: &mut m.marks,
+        rates: &mut m.rates,
+        sizes: &mut m.sizes,
+    };
+    let mut hashes = HashMemory {
+        heights: &mut m.kept,
+        bytes: &mut m.bytes,
+    };
+    let mut windows = WindowMemory {
+        hurdles: &mut m.hurdles,
+        befores: &mut m.befores,
+        aheads: &mut m.aheads,
+    };
     match Kind::from(call.code) {
-        Kind::Connect => s.insert(
-            call.height(),
-            call.block(),
-            call.hash(),
-            &mut m.heights,
-            &mut m.marks,
-            &mut m.rates,
-            &mut m.sizes,
-            &mut m.kept,
-            &mut m.bytes,
-            &mut m.hurdles,
-            &mut m.befores,
-            &mut m.aheads,
-        ),
-        Kind::Preload => s.insert_if_absent(
-            call.height(),
-            call.block(),
-            call.hash(),
-            &mut m.heights,
-            &mut m.marks,
-            &mut m.rates,
-            &mut m.sizes,
-            &mut m.kept,
-            &mut m.bytes,
-            &mut m.hurdles,
-            &mut m.befores,
-            &mut m.aheads,
-        ),
-        Kind::Cut => cut(s, call.height(), m),
+        Kind::Connect => s.insert(height, block, hash, &mut rows, &mut hashes, &mut windows),
+        Kind::Preload => {
+            s.insert_if_absent(height, block, hash, &mut rows, &mut hashes, &mut windows)
+        }
+        Kind::Cut => s.truncate_above(height, rows.lists(), hashes.lists()),
     }
 }
 
@@ -190,31 +186,30 @@ struct Replayed {
 }
 
 fn opened(budget: u64, targets: &[u32], capacity: usize, m: &Memory) -> Replayed {
-    let r = FeeHistory::new(
-        budget, targets, capacity, &m.heights, &m.marks, &m.rates, &m.sizes, &m.kept, &m.bytes,
-        &m.hurdles, &m.befores, &m.aheads,
-    );
-    Replayed {
-        state: r.state,
-        digest: refusal_number(r.outcome),
+    match FeeHistory::new(budget, targets, capacity, m.rows(), m.hashes(), m.windows()) {
+        Ok(state) => Replayed { state, digest: 0 },
+        Err(refusal) => Replayed {
+            state: FeeHistory::unopened(),
+            digest: refusal as u64,
+        },
     }
 }
 
 fn called(start: Replayed, call: Call, m: &mut Memory) -> Replayed {
-    let r = updated(start.state, call, m);
-    let s = r.state;
-    let held = s.get(call.height(), &m.heights, &m.marks, &m.rates, &m.sizes);
+    let mut state = start.state;
+    let refusal = refusal_number(updated(&mut state, call, m));
+    let held = state.get(call.height(), m.rows());
     Replayed {
-        state: s,
-        digest: mix_found(mix(start.digest, refusal_number(r.outcome)), held),
+        state,
+        digest: mix_found(mix(start.digest, refusal), held),
     }
 }
 
 // Rows that were written.
-fn rows_digest(n: usize, heights: &[u32], marks: &[u8], rates: &[u64], sizes: &[u64]) -> u64 {
+fn rows_digest(n: usize, rows: RowLists) -> u64 {
     let mut digest: u64 = 0;
-    let places = heights.iter().zip(marks);
-    let blocks = rates.iter().zip(sizes);
+    let places = rows.heights.iter().zip(rows.marks);
+    let blocks = rows.rates.iter().zip(rows.sizes);
     for ((height, mark), (rate, size)) in places.zip(blocks).take(n) {
         digest = mix(mix(digest, u64::from(*height)), u64::from(*mark));
         digest = mix(mix(digest, *rate), *size);
@@ -228,25 +223,26 @@ fn put_entries<W: Write>(to: &mut W, s: FeeHistory, m: &Memory) -> io::Result<()
     let mut marks = [0u8; 26];
     let mut rates = [0u64; 26];
     let mut sizes = [0u64; 26];
-    let n = count_of(s.entries(
-        &m.heights,
-        &m.marks,
-        &m.rates,
-        &m.sizes,
-        &mut heights,
-        &mut marks,
-        &mut rates,
-        &mut sizes,
-    ));
+    let mut out = RowMemory {
+        heights: &mut heights,
+        marks: &mut marks,
+        rates: &mut rates,
+        sizes: &mut sizes,
+    };
+    let n = s.entries(m.rows(), &mut out).unwrap_or(0);
     put::next(to, n as u64)?;
-    put::next(to, rows_digest(n, &heights, &marks, &rates, &sizes))
+    put::next(to, rows_digest(n, out.lists()))
 }
 
 // The hashes, as `recent_hashes` writes them into lists of zeros: their number and a digest.
 fn put_hashes<W: Write>(to: &mut W, s: FeeHistory, m: &Memory) -> io::Result<()> {
     let mut heights = [0u32; 144];
     let mut bytes = [0u8; 4608];
-    let n = count_of(s.recent_hashes(&m.kept, &m.bytes, &mut heights, &mut bytes));
+    let mut out = HashMemory {
+        heights: &mut heights,
+        bytes: &mut bytes,
+    };
+    let n = s.recent_hashes(m.hashes(), &mut out).unwrap_or(0);
     put::next(to, n as u64)?;
     put::next(to, digest(digest(0, &heights), &bytes))
 }
@@ -291,28 +287,33 @@ fn put_answer<W: Write>(to: &mut W, refusal: u64, numbers: &[u64], marks: &[u8])
 // The places are the scratch list's.
 fn put_rates<W: Write>(
     to: &mut W,
-    s: FeeHistory,
+    s: &mut FeeHistory,
     places: u64,
     m: &mut Memory,
-) -> io::Result<FeeHistory> {
+) -> io::Result<()> {
     let mut scratch = [0u64; 2304];
     let z = at_most(places, &scratch);
     let mut numbers = [77u64; 3];
     let mut marks = [77u8; 3];
-    let r = s.rates(
-        &m.heights,
-        &m.marks,
-        &m.rates,
-        &m.sizes,
-        &mut m.hurdles,
-        &mut m.befores,
-        &mut m.aheads,
+    let rows = RowLists {
+        heights: &m.heights,
+        marks: &m.marks,
+        rates: &m.rates,
+        sizes: &m.sizes,
+    };
+    let mut windows = WindowMemory {
+        hurdles: &mut m.hurdles,
+        befores: &mut m.befores,
+        aheads: &mut m.aheads,
+    };
+    let outcome = s.rates(
+        rows,
+        &mut windows,
         &mut scratch[..z],
         &mut numbers,
         &mut marks,
     );
-    put_answer(to, refusal_number(r.outcome), &numbers, &marks)?;
-    Ok(r.state)
+    put_answer(to, refusal_number(outcome), &numbers, &marks)
 }
 
 // How the blocks are worked out that are connected at every second height, from 0 on; two targets; where the next word
@@ -334,9 +335,10 @@ fn rates<W: Write>(to: &mut W, mut words: Words) -> io::Result<()> {
         after = called(after, Call { code, word }, &mut m);
     }
     let places = words.u64();
-    let fresh = put_rates(to, after.state, places, &mut m)?;
+    let mut s = after.state;
+    put_rates(to, &mut s, places, &mut m)?;
     put::space(to)?;
-    put_rates(to, fresh, places, &mut m)?;
+    put_rates(to, &mut s, places, &mut m)?;
     put::newline(to)
 }
 

@@ -4,6 +4,7 @@
 ghost use Rattle.std.specs.Prelude.{◌≡◌, [], ◌∷◌, ◌++◌, ◌+◌, ◌*◌, ◌≤◌, length};
 ghost use Rattle.arrayvec.specs.ArrayVec.{array_vec_len};
 ghost use Rattle.rbitcoin_mempool.specs.Answer.{answer};
+ghost use Rattle.rbitcoin_mempool.specs.Hold.{held_numbers, held_marks};
 ghost use Rattle.quote_lines.specs.Store.{seen};
 ghost use Rattle.quote_lines.specs.Bytes.{newline};
 ghost use Rattle.quote_board.specs.Text.{held, decimal, rate_text, quote_line, quote_lines};
@@ -12,8 +13,10 @@ ghost use Rattle.quote_board.specs.Text.{quotes, bad_text, text, feequote};
 use arrayvec::ArrayVec;
 use quote_lines::board::{BadLine, Board};
 use quote_lines::reader::read;
-use rbitcoin_mempool::answer::RateAnswer;
-use rbitcoin_mempool::fee_est::{fee_at_target_sat_kvb, hold_defined_then_monotone};
+use rbitcoin_mempool::answer::{Rate, Refusal};
+use rbitcoin_mempool::fee_est::{
+    Marked, MarkedMut, fee_at_target_sat_kvb, hold_defined_then_monotone,
+};
 
 // An answer. The longest is the header, 12 bytes, and 64 lines of at most 42.
 pub type Text = ArrayVec<u8, 4096>;
@@ -38,13 +41,13 @@ fn put_decimal(out: &mut Text, n: u64)
 }
 
 #[tactic(auto, unfolding(crate::specs::Text::rate_text))]
-fn put_rate(out: &mut Text, rate: RateAnswer)
+fn put_rate(out: &mut Text, rate: Result<Rate, Refusal>)
     requires { array_vec_len out.old + 20 ≤ 4096 }
     ensures text { out.new.items ≡ out.old.items ++ rate_text (answer rate) }
     ensures upper_bound { array_vec_len out.new ≤ array_vec_len out.old + 20 }
 {
     match rate {
-        RateAnswer::Found(rate) => put_decimal(out, rate),
+        Ok(Some(rate)) => put_decimal(out, rate),
         _ => put(out, b"-"),
     }
 }
@@ -57,18 +60,30 @@ fn put_quote(out: &mut Text, board: &Board, target: u32)
         ++ quote_line board.now.depths board.now.rates board.now.marks target }
     ensures upper_bound { array_vec_len out.new ≤ array_vec_len out.old + 42 }
 {
-    let rate = fee_at_target_sat_kvb(&board.depths, &board.rates, &board.marks, target);
+    let rates = Marked {
+        numbers: &board.rates,
+        marks: &board.marks,
+    };
+    let rate = fee_at_target_sat_kvb(&board.depths, rates, target);
     put_decimal(out, u64::from(target));
     put(out, b" ");
     put_rate(out, rate);
     put(out, b"\n");
 }
 
+// The hold pass. A board's numbers and marks are of one length, and each mark is 0 or 1.
+fn hold(numbers: &mut [u64], marks: &mut [u8])
+    ensures numbers { numbers.new ≡ held_numbers numbers.old marks.old }
+    ensures marks { marks.new ≡ held_marks numbers.old marks.old }
+{
+    let _ = hold_defined_then_monotone(&mut MarkedMut { numbers, marks });
+}
+
 // The board after the hold pass.
 fn held(mut board: Board) -> Board
     ensures { result ≡ held board }
 {
-    let _ = hold_defined_then_monotone(&mut board.rates, &mut board.marks);
+    hold(&mut board.rates, &mut board.marks);
     board
 }
 

@@ -1,8 +1,10 @@
 -- The edges as roundings of fine ones, and the place of a rate among them. Each table's rule is one test that is computed. Assumes nothing.
-use Rattle.std.proofs.Common.{◌≡◌, ℕ, zero, suc, ◌+◌, ◌-◌, ◌*◌, ◌/◌, ◌%◌, ◌^◌, ◌<◌, ◌≤◌, Bool, true, false, cond, ◌&&◌, eqb, ltb, leb, sym, refl, inl, inr, true≢false, le_refl, le_of_suc-le-suc, eq-or-lt_of_le, arith, pow_mono, ltb-false, ltb-true, le-ltb, lt-ltb, eqb-true, leb-false, leb-true}
+use Rattle.std.proofs.Common.{◌≡◌, ℕ, zero, suc, ◌+◌, ◌-◌, ◌*◌, ◌/◌, ◌%◌, ◌^◌, ◌<◌, ◌≤◌, Bool, true, false, cond, ◌&&◌, eqb, ltb, leb, List, get_or, sym, refl, inl, inr, true≢false, le_refl, le_of_suc-le-suc, eq-or-lt_of_le, arith, pow_mono, ltb-false, ltb-true, le-ltb, lt-ltb, eqb-true, leb-false, leb-true}
 use lib.Count.{count_leading_zeros, leading_top}
 use Rattle.slices.specs.Every.{every}
+use Rattle.slices.specs.Lists.{tabulate}
 use Rattle.slices.proofs.Every.{every-at}
+use Rattle.slices.proofs.Lists.{tabulate-at}
 use Rattle.slices.proofs.Search.{seek_is}
 use Rattle.rbitcoin_mempool.specs.Edges.{series, edge_at, first_above}
 use Rattle.rbitcoin_mempool.specs.Decade.{fine_edge, half_unit, InDecade, Ranked, eighth_start, eighth_end, FiveEdges}
@@ -70,18 +72,24 @@ rank-next y m p n e c h s f g r = rw s (go (ltb e y) refl)
         let z : n + c ≡ n = omega arith in
         rw z (record { within = omega (arith, r.within); below = r.below; above = past l })
 
-pub rank-start : (k a e₀ e₁ e₂ e₃ e₄ y : ℕ) → FiveEdges k a e₀ e₁ e₂ e₃ e₄ → eighth_start k ≤ y → Ranked y a a
-rank-start k a e₀ e₁ e₂ e₃ e₄ y f h = record { within = le_refl a; below = λ j l. omega (arith, f.low j l); above = λ j l m. absurd (omega arith) }
+module _ (k a y : ℕ) (es : List ℕ) (f : FiveEdges k a es) where
+  pub rank-start : eighth_start k ≤ y → Ranked y a a
+  rank-start h = record { within = le_refl a; below = λ j l. omega (arith, f.low j l); above = λ j l m. absurd (omega arith) }
 
-pub rank_end : (k a e₀ e₁ e₂ e₃ e₄ y n : ℕ) → FiveEdges k a e₀ e₁ e₂ e₃ e₄ → y < eighth_end k → Ranked y (a + 5) n → Ranked y 100 n
-rank_end k a e₀ e₁ e₂ e₃ e₄ y n f h r = record { within = omega (arith, r.within, f.room); below = r.below; above = past }
-  where
-    past : (j : ℕ) → n ≤ j → j < 100 → y ≤ fine_edge j
-    past j l m = go (ltb j (a + 5)) refl
-      where
-        go : (b : Bool) → ltb j (a + 5) ≡ b → y ≤ fine_edge j
-        go true q = r.above j l (ltb-true _ _ q)
-        go false q = omega (arith, f.high j (ltb-false j (a + 5) q) m)
+  -- with one more of the five
+  pub rank-more : (i n c : ℕ) → i < 5 → c ≡ cond (ltb (get_or es i 0) y) 1 0 → Ranked y (a + i) n → Ranked y (a + (i + 1)) (n + c)
+  rank-more i n c l e r =
+      rank-next y (a + i) (a + (i + 1)) n (get_or es i 0) c (omega (arith, f.room)) (omega arith) (rw f.edges (tabulate-at (λ j. fine_edge (a + j)) 0 5 i l)) e r
+
+  pub rank_end : (n : ℕ) → y < eighth_end k → Ranked y (a + 5) n → Ranked y 100 n
+  rank_end n h r = record { within = omega (arith, r.within, f.room); below = r.below; above = past }
+    where
+      past : (j : ℕ) → n ≤ j → j < 100 → y ≤ fine_edge j
+      past j l m = go (ltb j (a + 5)) refl
+        where
+          go : (b : Bool) → ltb j (a + 5) ≡ b → y ≤ fine_edge j
+          go true q = r.above j l (ltb-true _ _ q)
+          go false q = omega (arith, f.high j (ltb-false j (a + 5) q) m)
 
 -- ---- the rows of five
 unfoldable pub low_test : ℕ → ℕ → Bool
@@ -92,9 +100,8 @@ unfoldable pub high_test : ℕ → ℕ → Bool
 high_test k a = cond (ltb (a + 5) 100) (leb (eighth_end k) (fine_edge (a + 5))) true
 
 -- computed for each row
-unfoldable pub row_test : ℕ → ℕ → ℕ → ℕ → ℕ → ℕ → ℕ → Bool
-row_test k a e₀ e₁ e₂ e₃ e₄ =
-    leb (a + 5) 100 && (eqb e₀ (fine_edge a) && (eqb e₁ (fine_edge (a + 1)) && (eqb e₂ (fine_edge (a + 2)) && (eqb e₃ (fine_edge (a + 3)) && (eqb e₄ (fine_edge (a + 4)) && (low_test k a && high_test k a))))))
+unfoldable pub row_test : ℕ → ℕ → Bool
+row_test k a = leb (a + 5) 100 && (low_test k a && high_test k a)
 
 and : (a b : Bool) → a && b ≡ true → (a ≡ true) × (b ≡ true)
 and true b e = (refl, e)
@@ -111,40 +118,13 @@ high_of k a t j l m =
     let e = rw (lt-ltb (a + 5) 100 (omega arith)) at t in
     omega (arith, fine_mono (a + 5) j l m, leb-true (eighth_end k) (fine_edge (a + 5)) e)
 
-pub row_holds : (k i a e₀ e₁ e₂ e₃ e₄ : ℕ) → k ≡ i → row_test i a e₀ e₁ e₂ e₃ e₄ ≡ true → FiveEdges k a e₀ e₁ e₂ e₃ e₄
+pub row_holds : (k i a : ℕ) (es : List ℕ) → k ≡ i → es ≡ tabulate (λ j. fine_edge (a + j)) 0 5 → row_test i a ≡ true → FiveEdges k a es
 unfolding row_test
-row_holds k i a e₀ e₁ e₂ e₃ e₄ q t =
+row_holds k i a es q e t =
     let t₀ = and _ _ t in
     let t₁ = and _ _ t₀.1 in
-    let t₂ = and _ _ t₁.1 in
-    let t₃ = and _ _ t₂.1 in
-    let t₄ = and _ _ t₃.1 in
-    let t₅ = and _ _ t₄.1 in
-    let t₆ = and _ _ t₅.1 in
     let room = leb-true _ _ t₀.0 in
-    rw q (record {
-      room = room;
-      at₀ = eqb-true _ _ t₁.0;
-      at₁ = eqb-true _ _ t₂.0;
-      at₂ = eqb-true _ _ t₃.0;
-      at₃ = eqb-true _ _ t₄.0;
-      at₄ = eqb-true _ _ t₅.0;
-      low = low_of i a room t₆.0;
-      high = high_of i a t₆.1;
-    })
-
--- k is none of the c numbers from n on
-abbrev pub Missed : ℕ → ℕ → ℕ → Type 0
-Missed k n zero = Unit {0}
-Missed k n (suc c) = Missed k n c × (k ≡ n + c → ⊥)
-
-pub beyond : (k n c : ℕ) → n ≤ k → Missed k n c → n + c ≤ k
-beyond k n zero h m = omega arith
-beyond k n (suc c) h m =
-    elim (eq-or-lt_of_le (beyond k n c h m.0)) [
-      | inl e ↦ absurd (m.1 (sym e))
-      | inr l ↦ omega arith
-    ]
+    rw q (record { room = room; edges = e; low = low_of i a room t₁.0; high = high_of i a t₁.1 })
 
 -- ---- the eighth of y
 pub record Eighth (y k : ℕ) : Type 0 where
@@ -202,18 +182,6 @@ leads y l m =
         go true q = leb-true _ _ q
         go false q = let s : 24 ≤ j = omega (arith, leb-false 40 z q) in absurd (omega (arith, pow_mono s))
 
--- ---- the decade of a rate
-pub decade_in : (rate : ℕ) → 100 ≤ rate → rate < 1000000 → InDecade rate (cond (ltb 999 rate) 1 0 + cond (ltb 9999 rate) 1 0 + cond (ltb 99999 rate) 1 0)
-decade_in rate l m = go (ltb 999 rate) refl (ltb 9999 rate) refl (ltb 99999 rate) refl
-  where
-    go : (a : Bool) → ltb 999 rate ≡ a → (b : Bool) → ltb 9999 rate ≡ b → (c : Bool) → ltb 99999 rate ≡ c → InDecade rate (cond a 1 0 + cond b 1 0 + cond c 1 0)
-    go true e true f true g = record { known = omega arith; from = omega (arith, ltb-true 99999 rate g); to = omega arith }
-    go true e true f false g = record { known = omega arith; from = omega (arith, ltb-true 9999 rate f); to = omega (arith, ltb-false 99999 rate g) }
-    go true e false f false g = record { known = omega arith; from = omega (arith, ltb-true 999 rate e); to = omega (arith, ltb-false 9999 rate f) }
-    go false e false f false g = record { known = omega arith; from = omega arith; to = omega (arith, ltb-false 999 rate e) }
-    go false e true f c g = absurd (omega (arith, ltb-false 999 rate e, ltb-true 9999 rate f))
-    go a e false f true g = absurd (omega (arith, ltb-false 9999 rate f, ltb-true 99999 rate g))
-
 -- ---- the first edge above a rate
 pub above_at : (rate n : ℕ) → n ≤ 401 → ((k : ℕ) → k < n → edge_at k ≤ rate) → (n < 401 → rate < edge_at n) → n ≡ first_above rate
 unfolding first_above
@@ -232,12 +200,6 @@ above-none rate h = above_at rate 0 (omega arith) (λ k l. absurd (omega arith))
 
 pub above_all : (rate : ℕ) → 1000000 ≤ rate → 401 ≡ first_above rate
 above_all rate h = above_at rate 401 (omega arith) (λ k l. omega (arith, edge_mono k 400 (omega arith) (omega arith), last_edge)) (λ l. absurd (omega arith))
-
-pub half_rest : (d : ℕ) → (d ≡ 0 → ⊥) → (d ≡ 1 → ⊥) → (d ≡ 2 → ⊥) → 5 ≡ half_unit d
-half_rest zero f g h = absurd (f refl)
-half_rest (suc zero) f g h = absurd (g refl)
-half_rest (suc (suc zero)) f g h = absurd (h refl)
-half_rest (suc (suc (suc d))) f g h = refl
 
 -- the rate in the fine units, and half a unit
 abbrev pub fine : ℕ → ℕ → ℕ

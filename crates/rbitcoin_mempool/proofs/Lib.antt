@@ -25,6 +25,7 @@ pub mod Reach
 pub mod Padding
 pub mod Cuts
 pub mod Neighbors
+pub mod Targets
 pub mod Scans
 pub mod CaseL
 pub mod Ranks

@@ -4,7 +4,7 @@ use native.Mathlib.Decide.{dec_le}
 use native.Mathlib.Nat.{sub-zero}
 use lib.Seq.{take-nil}
 use Rattle.slices.specs.Sorted.{insert, sorted}
-use Rattle.rbitcoin_mempool.specs.Answer.{Answer, none, rate, refusal}
+use Rattle.rbitcoin_mempool.specs.Answer.{rate, refusal}
 use Rattle.rbitcoin_mempool.specs.Median.{lookback_part, lower_median, median_of}
 
 drop-take : {A : Type 0} (f t : ℕ) (l : List A) → f ≤ t → drop f (take t l) ≡ take (t - f) (drop f l)
@@ -73,14 +73,3 @@ pub median-some : (xs : List ℕ) → (length xs ≡ 0 → ⊥) → rate (median
 unfolding lower_median
 median-some [] n = absurd (n refl)
 median-some (x ∷ xs) n = refl
-
--- the median by what `lower_median` answers, 0 where it is none
-abbrev found : Answer → ℕ
-found (rate m) = m
-found none = 0
-found (refusal k) = 0
-
-pub median-found : (xs : List ℕ) (a : Answer) → a ≡ lower_median xs → found a ≡ median_of xs
-unfolding lower_median median_of sorted
-median-found [] a e = ap found e
-median-found (x ∷ xs) a e = ap found e

@@ -1,5 +1,5 @@
 -- The pairs in band and the distances, as they are collected: how each list grows, and what a list of pairs is made of; and how distances are ordered. Assumes nothing.
-use Rattle.std.proofs.Common.{◌≡◌, ℕ, ◌+◌, ◌*◌, ◌<◌, ◌≤◌, Bool, true, false, not, ◌&&◌, ◌||◌, T, eqb, ltb, List, [], ◌∷◌, ◌++◌, map, length, get_or, take, drop, set, ℤ, negsuc, sym, refl, ap, ◌∙◌, ap₂, append_assoc, append-nil, add-one, arith, length-append, length-drop, length-set, take-append-drop, drop_of_length-le, length-take-le, take_all, drop-cons, take-suc, drop-drop, take-suc-set, take_at, drop-set-lt, ltb-false, le-ltb, lt-ltb, eq-eqb}
+use Rattle.std.proofs.Common.{◌≡◌, ℕ, suc, ◌+◌, ◌*◌, ◌<◌, ◌≤◌, Bool, true, false, not, ◌&&◌, ◌||◌, T, eqb, ltb, List, [], ◌∷◌, ◌++◌, map, length, get_or, take, drop, set, ℤ, negsuc, sym, refl, ap, ◌∙◌, ap₂, append_assoc, append-nil, add-one, arith, length-append, length-drop, length-set, take-append-drop, length-take-le, take_all, take-suc, drop-drop, take-suc-set, take_at, drop-set-lt, ltb-false, le-ltb, lt-ltb, eq-eqb}
 use mathlib.Core.List.{map-append}
 use lib.Seq.{take-set-le}
 use lib.Ieee.{Float, nan, inf, fin, binary64, up, down, sub, neg, lt, eq, le, is_nan, size, add, mul, div, of_bits, of_int}
@@ -52,58 +52,56 @@ passed : (now : Float) (p : Pair) (ps : List Pair) → in_band now p ≡ false �
 unfolding outcomes_in_band
 passed now p ps e = rw e
 
--- ---- after i pairs: the outcomes of those in band stand in front
-pub record Gathering (now : Float) (logs : List Float) (outs start out : List ℕ) (n i : ℕ) : Type 0 where
-  pub within : i ≤ length logs
-  pub order : n ≤ i
-  pub size : length out ≡ length start
-  pub done : take n out ++ outcomes_in_band now (paired (drop i logs) (drop i outs)) ≡ outcomes_in_band now (paired logs outs)
+-- ---- of the pairs `all`, those from `logs` and `outs` are still to come: the outcomes of those in band before them stand in front
+pub record Gathering (now : Float) (all : List Pair) (logs : List Float) (outs out : List ℕ) (n : ℕ) : Type 0 where
+  pub as_many : length logs ≡ length outs
+  pub room : n + length logs ≤ length out
+  pub done : take n out ++ outcomes_in_band now (paired logs outs) ≡ outcomes_in_band now all
 
-pub gather-start : (now : Float) (logs : List Float) (outs start : List ℕ) → Gathering now logs outs start start 0 0
-gather-start now logs outs start = record { within = omega arith; order = omega arith; size = refl; done = refl }
+pub gather_start : (now : Float) (logs ls : List Float) (outs os out : List ℕ) → ls ≡ logs → os ≡ outs → length logs ≡ length outs → length logs ≤ length out
+    → Gathering now (paired logs outs) ls os out 0
+gather_start now logs ls outs os out p q e r = rw (p, q) (record { as_many = e; room = omega arith; done = refl })
 
-module _ (now : Float) (logs : List Float) (outs start out : List ℕ) (n i : ℕ) (h : Gathering now logs outs start out n i)
-    (s : length logs ≡ length outs) (room : length logs ≤ length start) where
-  module _ (r : i < length logs) (z : Float) where
-    abbrev here : Pair
-    here = record { before = get_or logs i z; ahead = get_or outs i 0 }
+module _ {now : Float} {all : List Pair} {logs bs : List Float} {outs vs out : List ℕ} {b : Float} {v n : ℕ}
+    (h : Gathering now all logs outs out n) (p : logs ≡ b ∷ bs) (q : outs ≡ v ∷ vs) where
+  abbrev here : Pair
+  here = record { before = b; ahead = v }
 
-    pairs-from : paired (drop i logs) (drop i outs) ≡ here ∷ paired (drop (i + 1) logs) (drop (i + 1) outs)
-    unfolding paired
-    pairs-from = rw (add-one i, drop-cons logs i z r, drop-cons outs i 0 (omega arith))
+  one_less : (length logs ≡ suc (length bs)) × (length outs ≡ suc (length vs))
+  one_less = (ap length p, ap length q)
 
-    pub gather_in : in_band now here ≡ true → Gathering now logs outs start (set out n (get_or outs i 0)) (n + 1) (i + 1)
-    gather_in e =
-        record {
-          within = omega arith;
-          order = omega arith;
-          size = length-set out n _ ∙ h.size;
-          done =
-              rw (add-one n, take-suc-set out n (get_or outs i 0) (omega (arith, h.size)))
-              (append_assoc (take n out) (get_or outs i 0 ∷ []) _ ∙ ap (λ l. take n out ++ l) (sym step) ∙ h.done);
-        }
-      where
-        step : outcomes_in_band now (paired (drop i logs) (drop i outs)) ≡ get_or outs i 0 ∷ outcomes_in_band now (paired (drop (i + 1) logs) (drop (i + 1) outs))
-        step = ap (outcomes_in_band now) pairs-from ∙ taken now here _ e
+  pub gather_room : n < length out
+  gather_room = let l = one_less in omega (arith, h.room)
 
-    pub gather-past : in_band now here ≡ false → Gathering now logs outs start (set out n (get_or outs i 0)) n (i + 1)
-    gather-past e =
-        record {
-          within = omega arith;
-          order = omega arith;
-          size = length-set out n _ ∙ h.size;
-          done = rw (take-set-le n out n (get_or outs i 0) (omega arith)) (ap (λ l. take n out ++ l) (sym step) ∙ h.done);
-        }
-      where
-        step : outcomes_in_band now (paired (drop i logs) (drop i outs)) ≡ outcomes_in_band now (paired (drop (i + 1) logs) (drop (i + 1) outs))
-        step = ap (outcomes_in_band now) pairs-from ∙ passed now here _ e
+  pub gather_in : in_band now here ≡ true → Gathering now all bs vs (set out n v) (n + 1)
+  unfolding paired
+  gather_in e =
+      let l = one_less in
+      record {
+        as_many = omega (arith, h.as_many);
+        room = omega (arith, h.room, length-set out n v);
+        done =
+            rw (add-one n, take-suc-set out n v gather_room)
+            (append_assoc (take n out) (v ∷ []) _ ∙ ap (λ l. take n out ++ l) (sym (taken now here _ e)) ∙ rw (p, q) at h.done);
+      }
 
-  pub gather_end : length logs ≤ i → take n out ≡ outcomes_in_band now (paired logs outs)
-  unfolding outcomes_in_band paired
-  gather_end l = sym (append-nil (take n out)) ∙ sym (ap (λ k. take n out ++ outcomes_in_band now (paired k (drop i outs))) (drop_of_length-le logs l)) ∙ h.done
+  pub gather-past : in_band now here ≡ false → Gathering now all bs vs (set out n v) n
+  unfolding paired
+  gather-past e =
+      let l = one_less in
+      record {
+        as_many = omega (arith, h.as_many);
+        room = omega (arith, h.room, length-set out n v);
+        done = rw (take-set-le n out n v (omega arith)) (ap (λ l. take n out ++ l) (sym (passed now here _ e)) ∙ rw (p, q) at h.done);
+      }
 
-  pub gather-count : length logs ≤ i → n ≡ length (outcomes_in_band now (paired logs outs))
-  gather-count l = sym (length-take-le n out (omega (arith, h.size))) ∙ ap length (gather_end l)
+pub gather_end : {now : Float} {all : List Pair} (logs : List Float) {outs out : List ℕ} {n : ℕ} → Gathering now all logs outs out n → length logs ≡ 0 → take n out ≡ outcomes_in_band now all
+unfolding outcomes_in_band paired
+gather_end [] h e = sym (append-nil _) ∙ h.done
+gather_end (b ∷ bs) h e = absurd (omega arith)
+
+pub gather-count : {now : Float} {all : List Pair} (logs : List Float) {outs out : List ℕ} {n : ℕ} → Gathering now all logs outs out n → length logs ≡ 0 → n ≡ length (outcomes_in_band now all)
+gather-count logs {out} {n} h e = sym (length-take-le n out (omega (arith, h.room))) ∙ ap length (gather_end logs h e)
 
 -- ---- the first i places of `out` hold the first i distances, and the rest is as it was
 pub record Filled (logs : List Float) (level : Float) (start out : List ℕ) (i : ℕ) : Type 0 where

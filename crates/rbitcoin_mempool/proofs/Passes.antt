@@ -1,14 +1,13 @@
 -- The passes over lists as their loops make them, place by place. Assumes nothing.
-use Rattle.std.proofs.Common.{◌≡◌, ℕ, zero, suc, ◌+◌, ◌-◌, ◌<◌, ◌≤◌, min, Bool, true, false, cond, ◌&&◌, leb, List, [], ◌∷◌, ◌++◌, length, get_or, take, set, sym, refl, ap, ◌∙◌, subst, inl, inr, le_trans, le_refl, le_of_suc-le-suc, not-suc-le-zero, eq-or-lt_of_le, add-one, arith, length-set, get_or-set_other, take-suc, get_or-set_same, ext_get_or, eq-eqb, ne_eqb, le-leb, leb-false, leb-true}
+use Rattle.std.proofs.Common.{◌≡◌, ℕ, zero, suc, ◌+◌, ◌-◌, ◌<◌, ◌≤◌, min, Bool, true, leb, List, [], ◌∷◌, ◌++◌, length, get_or, take, set, sym, refl, ap, ◌∙◌, subst, inl, inr, le_trans, le_refl, le_of_suc-le-suc, not-suc-le-zero, eq-or-lt_of_le, add-one, arith, length-set, get_or-set_other, take-suc, get_or-set_same, ext_get_or, eq-eqb, ne_eqb, le-leb, leb-false, leb-true}
 use mathlib.Core.Option.{Option, none, some}
 use Rattle.slices.specs.Search.{seek}
 use Rattle.slices.proofs.Search.{sought}
 use Rattle.slices.specs.Lists.{tabulate}
-use Rattle.slices.specs.Every.{every}
 use Rattle.slices.proofs.Every.{every-at}
 use Rattle.slices.proofs.Lists.{tabulate-is, tabulate-at, tabulate-length}
-use Rattle.rbitcoin_mempool.specs.Rates.{rate_at, rates_of, marks_valid, mark_of, number_or, marks_of, numbers_over}
-use Rattle.rbitcoin_mempool.specs.Hold.{no_more, enforce_monotone_desc, hold_defined_then_monotone, never_descends, hold_refusal, held_numbers, held_marks}
+use Rattle.rbitcoin_mempool.specs.Rates.{marked, rate_at, rates_of, marks_valid, mark_of, number_or, marks_of, numbers_over}
+use Rattle.rbitcoin_mempool.specs.Hold.{no_more, enforce_monotone_desc, hold_defined_then_monotone, never_descends}
 use Rattle.rbitcoin_mempool.specs.Target.{unless_later, last_there}
 use Rattle.rbitcoin_mempool.specs.Exact.{least, least_so_far}
 use Rattle.rbitcoin_mempool.proofs.RateLists.{map_at, map-length}
@@ -39,39 +38,37 @@ written P xs ys i v m a b h e k l =
     ]
 
 -- ---- the hold pass: places before i are done, the others as they were
-pub record Holding (ns ms numbers marks : List ℕ) (found : Bool) (best i : ℕ) : Type 0 where
+pub record Holding (ns ms numbers marks : List ℕ) (best : Option ℕ) (i : ℕ) : Type 0 where
   pub within : i ≤ length ns
   pub numbers-length : length numbers ≡ length ns
   pub marks-length : length marks ≡ length ns
   pub done : (k : ℕ) → k < i → (get_or numbers k 0 ≡ number_or (get_or ns k 0) (up_to (rate_at ns ms) (suc k))) × (get_or marks k 0 ≡ mark_of (up_to (rate_at ns ms) (suc k)))
   pub rest : (k : ℕ) → i ≤ k → (get_or numbers k 0 ≡ get_or ns k 0) × (get_or marks k 0 ≡ get_or ms k 0)
-  pub best-is : cond found (some best) none ≡ up_to (rate_at ns ms) i
+  pub best-is : best ≡ up_to (rate_at ns ms) i
 
-pub hold-start : (ns ms : List ℕ) (best : ℕ) → length ns ≡ length ms → Holding ns ms ns ms false best 0
+pub hold-start : (ns ms : List ℕ) → length ns ≡ length ms → Holding ns ms ns ms none 0
 unfolding up_to
-hold-start ns ms best e =
+hold-start ns ms e =
     record { within = omega arith; numbers-length = refl; marks-length = sym e; done = λ k l. absurd (not-suc-le-zero l); rest = λ k l. (refl, refl); best-is = refl }
 
--- the least with one more, by whether the mark is 1
-pub more_there : (ns ms : List ℕ) (found : Bool) (best i : ℕ) → get_or ms i 0 ≡ 1 → cond found (some best) none ≡ up_to (rate_at ns ms) i → some (cond found (min best (get_or ns i 0)) (get_or ns i 0)) ≡ up_to (rate_at ns ms) (suc i)
+-- no rate is there up to one that is missing too
+pub none_up_to : (f : ℕ → Option ℕ) (i : ℕ) → none ≡ up_to f (suc i) → f i ≡ none
 unfolding up_to
-more_there ns ms found best i m h = rw (← h, eq-eqb (get_or ms i 0) 1 m) (go found)
+none_up_to f i e = go (up_to f i) (f i) e
   where
-    go : (b : Bool) → some (cond b (min best (get_or ns i 0)) (get_or ns i 0)) ≡ least min (cond b (some best) none) (some (get_or ns i 0))
-    go true = refl
-    go false = refl
+    go : (x y : Option ℕ) → none ≡ least min x y → y ≡ none
+    go none y e = sym e
+    go (some a) none e = refl
+    go (some a) (some b) e = let z : ◌≡◌ {A = ℕ} 0 1 = cc in absurd (omega arith)
 
-pub more-missing : (ns ms : List ℕ) (found : Bool) (best i : ℕ) → (get_or ms i 0 ≡ 1 → ⊥) → cond found (some best) none ≡ up_to (rate_at ns ms) i → cond found (some best) none ≡ up_to (rate_at ns ms) (suc i)
-unfolding up_to
-more-missing ns ms found best i m h = rw (← h, ne_eqb (get_or ms i 0) 1 m) (go found)
-  where
-    go : (b : Bool) → cond b (some best) none ≡ least min (cond b (some best) none) none
-    go true = refl
-    go false = refl
+module _ (ns ms numbers marks : List ℕ) (best : Option ℕ) (i : ℕ) (h : Holding ns ms numbers marks best i) (l : i < length ns) where
+  -- the least with one more
+  pub more : (b : Option ℕ) → b ≡ least min best (rate_at numbers marks i) → b ≡ up_to (rate_at ns ms) (suc i)
+  unfolding up_to
+  more b e = e ∙ rw (← h.best-is, (h.rest i (omega arith)).0, (h.rest i (omega arith)).1)
 
-module _ (ns ms numbers marks : List ℕ) (found : Bool) (best i : ℕ) (h : Holding ns ms numbers marks found best i) (l : i < length ns) where
   -- a rate is written
-  pub hold_write : (v : ℕ) → some v ≡ up_to (rate_at ns ms) (suc i) → Holding ns ms (set numbers i v) (set marks i 1) true v (i + 1)
+  pub hold_write : (v : ℕ) → some v ≡ up_to (rate_at ns ms) (suc i) → Holding ns ms (set numbers i v) (set marks i 1) (some v) (i + 1)
   hold_write v e =
       record {
         within = omega arith;
@@ -83,10 +80,10 @@ module _ (ns ms numbers marks : List ℕ) (found : Bool) (best i : ℕ) (h : Hol
       }
 
   -- nothing is there yet, and nothing is written
-  pub hold_skip : (get_or ms i 0 ≤ 1) → none ≡ up_to (rate_at ns ms) (suc i) → (get_or ms i 0 ≡ 1 → ⊥) → found ≡ false → Holding ns ms numbers marks found best (i + 1)
-  hold_skip z e m f =
+  pub hold_skip : get_or ms i 0 ≤ 1 → none ≡ up_to (rate_at ns ms) (suc i) → Holding ns ms numbers marks none (i + 1)
+  hold_skip z e =
       let r = h.rest i (omega arith) in
-      let o : get_or ms i 0 ≡ 0 = low (get_or ms i 0) z m in
+      let o : get_or ms i 0 ≡ 0 = low (get_or ns i 0) (get_or ms i 0) z (none_up_to (rate_at ns ms) i e) in
       record {
         within = omega arith;
         numbers-length = h.numbers-length;
@@ -97,16 +94,18 @@ module _ (ns ms numbers marks : List ℕ) (found : Bool) (best i : ℕ) (h : Hol
           | inr t ↦ h.done k t
         ];
         rest = λ k n. h.rest k (omega arith);
-        best-is = rw (f, add-one) e;
+        best-is = rw add-one e;
       }
     where
-      low : (a : ℕ) → a ≤ 1 → (a ≡ 1 → ⊥) → a ≡ 0
-      low a b c = omega arith
+      low : (n a : ℕ) → a ≤ 1 → marked n a ≡ none → a ≡ 0
+      low n zero b c = refl
+      low n (suc zero) b c = let z : ◌≡◌ {A = ℕ} 0 1 = cc in absurd (omega arith)
+      low n (suc (suc a)) b c = absurd (omega arith)
 
-pub hold_end : (ns ms numbers marks : List ℕ) (found : Bool) (best i : ℕ) → Holding ns ms numbers marks found best i → length ns ≤ i
+pub hold_end : (ns ms numbers marks : List ℕ) (best : Option ℕ) (i : ℕ) → Holding ns ms numbers marks best i → length ns ≤ i
     → (numbers ≡ numbers_over ns (hold_defined_then_monotone (rates_of ns ms))) × (marks ≡ marks_of (hold_defined_then_monotone (rates_of ns ms)))
 unfolding numbers_over
-hold_end ns ms numbers marks found best i h l =
+hold_end ns ms numbers marks best i h l =
     let n = length ns in
     let T = tabulate (λ k. up_to (rate_at ns ms) (suc k)) 0 n in
     let e = held_at ns ms in
@@ -117,24 +116,6 @@ hold_end ns ms numbers marks found best i h l =
       ext_get_or 0 marks (marks_of T) (h.marks-length ∙ sym size)
           (λ k m. let q : k < n = omega (arith, h.marks-length) in (h.done k (omega arith)).1 ∙ ap mark_of (sym (tabulate-at (λ j. up_to (rate_at ns ms) (suc j)) none n k q)) ∙ sym (map_at mark_of T none 0 refl k)),
     )
-
--- ---- a test of every place as a flag that a loop clears where the test fails
-and-true : (a b : Bool) → b ≡ true → a ≡ (a && b)
-and-true true b e = sym e
-and-true false b e = refl
-
-and-false : (a b : Bool) → b ≡ false → false ≡ (a && b)
-and-false true b e = sym e
-and-false false b e = refl
-
-module _ (p : ℕ → Bool) (n : ℕ) where
-  pub flag-kept : (b : Bool) → b ≡ every p n → p n ≡ true → b ≡ every p (n + 1)
-  unfolding every
-  flag-kept b e h = e ∙ rw add-one (and-true (every p n) (p n) h)
-
-  pub flag_cleared : p n ≡ false → false ≡ every p (n + 1)
-  unfolding every
-  flag_cleared h = rw add-one (and-false (every p n) (p n) h)
 
 pub mark-at : (ms : List ℕ) (i : ℕ) → marks_valid ms ≡ true → i < length ms → get_or ms i 0 ≤ 1
 unfolding marks_valid
@@ -221,19 +202,21 @@ last_more (x ∷ os) o = rw (last_more os o) (go o (last_there os))
     go none p = refl
     go (some r) p = refl
 
-module _ (ns ms : List ℕ) (i : ℕ) (l : i < length ns) where
-  last-at : last_there (take (suc i) (rates_of ns ms)) ≡ unless_later (last_there (take i (rates_of ns ms))) (rate_at ns ms i)
+-- the last rate before i by the one just before it
+module _ (ns ms : List ℕ) (i : ℕ) (above : 0 < i) (within : i ≤ length ns) where
+  last-at : last_there (take i (rates_of ns ms)) ≡ unless_later (last_there (take (i - 1) (rates_of ns ms))) (rate_at ns ms (i - 1))
   unfolding rates_of
   last-at =
       let os = tabulate (rate_at ns ms) 0 (length ns) in
-      let q : i < length os = omega (arith, tabulate-length (rate_at ns ms) 0 (length ns)) in
-      rw (take-suc os i none q, tabulate-at (rate_at ns ms) none (length ns) i l) (last_more (take i os) (rate_at ns ms i))
+      let q : i - 1 < length os = omega (arith, tabulate-length (rate_at ns ms) 0 (length ns)) in
+      let e : i ≡ suc (i - 1) = omega arith in
+      ap (λ n. last_there (take n os)) e ∙ rw (take-suc os (i - 1) none q, tabulate-at (rate_at ns ms) none (length ns) (i - 1) (omega arith)) (last_more (take (i - 1) os) (rate_at ns ms (i - 1)))
 
-  pub last_there_lem : get_or ms i 0 ≡ 1 → some (get_or ns i 0) ≡ last_there (take (suc i) (rates_of ns ms))
-  last_there_lem m = sym (last-at ∙ rw (eq-eqb (get_or ms i 0) 1 m))
+  pub last-found : get_or ms (i - 1) 0 ≡ 1 → some (get_or ns (i - 1) 0) ≡ last_there (take i (rates_of ns ms))
+  last-found m = sym (last-at ∙ rw (eq-eqb (get_or ms (i - 1) 0) 1 m))
 
-  pub last-missing : (get_or ms i 0 ≡ 1 → ⊥) → last_there (take (suc i) (rates_of ns ms)) ≡ last_there (take i (rates_of ns ms))
-  last-missing m = last-at ∙ rw (ne_eqb (get_or ms i 0) 1 m)
+  pub last-missing : (get_or ms (i - 1) 0 ≡ 1 → ⊥) → last_there (take i (rates_of ns ms)) ≡ last_there (take (i - 1) (rates_of ns ms))
+  last-missing m = last-at ∙ rw (ne_eqb (get_or ms (i - 1) 0) 1 m)
 
 pub rates-at : (ns ms : List ℕ) (i : ℕ) → i < length ns → get_or (rates_of ns ms) i none ≡ rate_at ns ms i
 unfolding rates_of
@@ -251,36 +234,3 @@ reached-lt ds t n l =
 pub rates-length : (ns ms : List ℕ) → length (rates_of ns ms) ≡ length ns
 unfolding rates_of
 rates-length ns ms = tabulate-length (rate_at ns ms) 0 (length ns)
-
--- ---- the hold pass with its refusals
-module _ (ns ms : List ℕ) where
-  unequal : (length ns ≡ length ms → ⊥) → some 1 ≡ hold_refusal ns ms
-  unfolding hold_refusal
-  unequal h = rw (ne_eqb (length ns) (length ms) h)
-
-  bad-mark : length ns ≡ length ms → marks_valid ms ≡ false → some 8 ≡ hold_refusal ns ms
-  unfolding hold_refusal
-  bad-mark h v = rw (eq-eqb (length ns) (length ms) h, v)
-
-  good : length ns ≡ length ms → marks_valid ms ≡ true → none ≡ hold_refusal ns ms
-  unfolding hold_refusal
-  good h v = rw (eq-eqb (length ns) (length ms) h, v)
-
-  pub record Held (o : Option ℕ) (numbers marks : List ℕ) : Type 0 where
-    pub refusal : o ≡ hold_refusal ns ms
-    pub numbers_are : numbers ≡ held_numbers ns ms
-    pub marks_are : marks ≡ held_marks ns ms
-
-  refused : (k : ℕ) → some k ≡ hold_refusal ns ms → Held (some k) ns ms
-  unfolding held_numbers held_marks
-  refused k e = record { refusal = e; numbers_are = rw (← e); marks_are = rw (← e) }
-
-  pub held_1 : (length ns ≡ length ms → ⊥) → Held (some 1) ns ms
-  held_1 h = refused 1 (unequal h)
-
-  pub held_8 : length ns ≡ length ms → marks_valid ms ≡ false → Held (some 8) ns ms
-  held_8 h v = refused 8 (bad-mark h v)
-
-  pub held-done : (numbers marks : List ℕ) → length ns ≡ length ms → marks_valid ms ≡ true → numbers ≡ numbers_over ns (hold_defined_then_monotone (rates_of ns ms)) → marks ≡ marks_of (hold_defined_then_monotone (rates_of ns ms)) → Held none numbers marks
-  unfolding held_numbers held_marks
-  held-done numbers marks h v a b = let e = good h v in record { refusal = e; numbers_are = rw (← e) a; marks_are = rw (← e) b }

@@ -1,14 +1,15 @@
 -- The loop over depths as its code makes it: each place written, then held; and its refusals. Assumes nothing.
-use Rattle.std.proofs.Common.{◌≡◌, ℕ, suc, ◌+◌, ◌<◌, ◌≤◌, min, Bool, true, false, cond, ◌&&◌, List, length, get_or, set, sym, refl, ap, ◌∙◌, true≢false, not-suc-le-zero, arith, length-set, ext_get_or, eqb-true}
+use Rattle.std.proofs.Common.{◌≡◌, ℕ, suc, ◌+◌, ◌<◌, ◌≤◌, Bool, true, false, cond, ◌&&◌, List, length, get_or, set, sym, refl, ap, ◌∙◌, true≢false, not-suc-le-zero, arith, length-set, ext_get_or, eqb-true}
 use mathlib.Core.Option.{Option, none, some}
 use Rattle.slices.specs.Lists.{tabulate}
 use Rattle.slices.proofs.Lists.{tabulate-at, tabulate-length, tabulate-is}
-use Rattle.rbitcoin_mempool.specs.Rates.{rate_at, rates_of, number_of, mark_of, number_or, numbers_of, marks_of, numbers_over}
-use Rattle.rbitcoin_mempool.specs.Hold.{Args, depth_rates, hold_defined_then_monotone, never_descends, same_lengths, input_marks, loop_refusal, loop_numbers, loop_marks}
-use Rattle.rbitcoin_mempool.specs.Exact.{least}
+use Rattle.rbitcoin_mempool.specs.Rates.{rate_at, rates_of, marks_valid, number_of, mark_of, number_or, numbers_of, marks_of, numbers_over}
+use Rattle.rbitcoin_mempool.specs.Hold.{Args, published_at, depth_rates, hold_defined_then_monotone, never_descends, same_lengths, input_marks, loop_refusal}
+use Rattle.rbitcoin_mempool.specs.declared.fee_est.publish.DepthLists.{DepthLists}
+use Rattle.rbitcoin_mempool.specs.Lists.{Aligned, args_in}
 use Rattle.rbitcoin_mempool.specs.Demand3.{OneLength}
-use Rattle.rbitcoin_mempool.proofs.RateLists.{map_at, map-length, numbers-length, rate-again, rates-again}
-use Rattle.rbitcoin_mempool.proofs.Passes.{written, up_to, held_at}
+use Rattle.rbitcoin_mempool.proofs.RateLists.{map_at, map-length, numbers-length, marks-again, rate-again, rates-again}
+use Rattle.rbitcoin_mempool.proofs.Passes.{written, up_to, held_at, none_up_to}
 
 -- ---- the rates f at the places before i are written
 pub record Writing (f : ℕ → Option ℕ) (n : ℕ) (out marks : List ℕ) (i : ℕ) : Type 0 where
@@ -41,15 +42,6 @@ module _ (f : ℕ → Option ℕ) (n : ℕ) (out marks : List ℕ) where
       )
 
 -- ---- the hold pass over a list that has 0 under its missing marks
-none_there : (f : ℕ → Option ℕ) (k : ℕ) → up_to f (suc k) ≡ none → f k ≡ none
-unfolding up_to
-none_there f k e = go (up_to f k) (f k) e
-  where
-    go : (x y : Option ℕ) → least min x y ≡ none → y ≡ none
-    go none y e = e
-    go (some a) none e = refl
-    go (some a) (some b) e = let z : ◌≡◌ {A = ℕ} 0 1 = cc in absurd (omega arith)
-
 module _ (os : List (Option ℕ)) where
   abbrev ns : List ℕ
   ns = numbers_of os
@@ -64,7 +56,7 @@ module _ (os : List (Option ℕ)) where
   zero-under k l (some r) e = refl
   zero-under k l none e =
       let u : up_to (rate_at ns ms) (suc k) ≡ none = sym (ap (λ (h : List (Option ℕ)). get_or h k none) (held_at ns ms) ∙ tabulate-at (λ j. up_to (rate_at ns ms) (suc j)) none (length ns) k l) ∙ e in
-      let z : get_or os k none ≡ none = sym (rate-again os k) ∙ none_there (rate_at ns ms) k u in
+      let z : get_or os k none ≡ none = sym (rate-again os k) ∙ none_up_to (rate_at ns ms) k (sym u) in
       sym (map_at number_of os none 0 refl k ∙ ap number_of z)
 
   held-length : length H ≡ length ns
@@ -83,20 +75,18 @@ module _ (os : List (Option ℕ)) where
   pub held-marks : marks_of H ≡ marks_of (hold_defined_then_monotone os)
   held-marks = ap (λ (l : List (Option ℕ)). marks_of (hold_defined_then_monotone l)) (rates-again os)
 
--- ---- what the loop leaves
-module _ (a : Args) (out out_marks : List ℕ) where
-  pub record Looped (o : Option ℕ) (numbers marks : List ℕ) : Type 0 where
-    pub refusal : o ≡ loop_refusal a (length out) (length out_marks)
-    pub numbers_are : numbers ≡ loop_numbers a out out_marks
-    pub marks_are : marks ≡ loop_marks a out out_marks
+-- ---- the published rates, written as O and M and then held
+module _ (a : Args) (O M : List ℕ) (p : O ≡ numbers_of (tabulate (published_at a) 0 (length a.depths))) (q : M ≡ marks_of (tabulate (published_at a) 0 (length a.depths))) where
+  pub valid : marks_valid M ≡ true
+  valid = rw q (marks-again _)
 
-  pub loop-refused : (k : ℕ) → some k ≡ loop_refusal a (length out) (length out_marks) → Looped (some k) out out_marks
-  unfolding loop_numbers loop_marks
-  loop-refused k e = record { refusal = e; numbers_are = rw (← e); marks_are = rw (← e) }
+  pub numbers-held : (ns : List ℕ) → ns ≡ numbers_over O (hold_defined_then_monotone (rates_of O M)) → ns ≡ numbers_of (depth_rates a)
+  unfolding depth_rates
+  numbers-held ns e = rw (e, p, q) (held-numbers (tabulate (published_at a) 0 (length a.depths)))
 
-  pub loop-done : (numbers marks : List ℕ) → none ≡ loop_refusal a (length out) (length out_marks) → numbers ≡ numbers_of (depth_rates a) → marks ≡ marks_of (depth_rates a) → Looped none numbers marks
-  unfolding loop_numbers loop_marks
-  loop-done numbers marks e g h = record { refusal = e; numbers_are = rw (← e) g; marks_are = rw (← e) h }
+  pub marks-held : (ms : List ℕ) → ms ≡ marks_of (hold_defined_then_monotone (rates_of O M)) → ms ≡ marks_of (depth_rates a)
+  unfolding depth_rates
+  marks-held ms e = rw (e, p, q) (held-marks (tabulate (published_at a) 0 (length a.depths)))
 
 -- ---- what no refusal says
 pub and_both : (x y : Bool) → x && y ≡ true → (x ≡ true) × (y ≡ true)
@@ -139,4 +129,14 @@ agreed a out out_marks e =
       history_marks = eqb-true _ _ h.1;
       output = eqb-true _ _ o.0;
       output_marks = eqb-true _ _ o.1;
+    }
+
+-- so each list of rates has a number and a mark for each depth
+pub aligned : (l : DepthLists) (out out_marks : ℕ) → loop_refusal (args_in l) out out_marks ≡ none → Aligned l
+aligned l out out_marks e =
+    let g = agreed (args_in l) out out_marks e in
+    record {
+      projected = record { numbers = g.projected; marks = g.projected_marks };
+      frontier = record { numbers = g.frontier; marks = g.frontier_marks };
+      history = record { numbers = g.history; marks = g.history_marks };
     }

@@ -1,10 +1,14 @@
 -- Each step of a push leaves valid windows, and the steps make the push. Assumes nothing.
-use Rattle.std.proofs.Common.{◌≡◌, ℕ, zero, suc, ◌+◌, ◌-◌, ◌*◌, ◌/◌, ◌<◌, ◌≤◌, Bool, true, false, cond, List, length, set, sym, refl, ◌∙◌, subst, ⊎_elim, zero-le, eq-or-lt_of_le, arith, length-set, eq-eqb, ne_eqb}
+use Rattle.std.proofs.Common.{◌≡◌, ℕ, zero, suc, ◌+◌, ◌-◌, ◌*◌, ◌/◌, ◌<◌, ◌≤◌, Bool, true, false, cond, List, length, set, sym, refl, ap, ◌∙◌, subst, ⊎_elim, zero-le, eq-or-lt_of_le, arith, length-set, eq-eqb, ne_eqb}
 use lib.Ieee.{Float}
 use Rattle.slices.proofs.Runs.{length_moved}
 use Rattle.rbitcoin_mempool.specs.Pairs.{ahead_at, before_at}
-use Rattle.rbitcoin_mempool.specs.Windows.{Valid, Windows, at, each_target, free_of, held, move_region, moved_to, push_back_of, push_front_of, push_of, push_refusal_of, put, room_of, store_back, store_front, windows, with_pairs}
+use Rattle.rbitcoin_mempool.specs.Windows.{Room, Valid, Windows, at, each_target, free_of, held, move_region, moved_to, push_back_of, push_front_of, push_of, push_refusal, push_refusal_of, put, rebuild_refusal, rebuild_refusal_of, room_of, store_back, store_front, store_of, windows, with_pairs}
 use Rattle.rbitcoin_mempool.specs.declared.fee_analog.history.AnalogHistory.{AnalogHistory}
+use Rattle.rbitcoin_mempool.specs.Memory.{lent_sizes, windows_of}
+use Rattle.rbitcoin_mempool.specs.declared.fee_analog.memory.WindowMemory.{WindowMemory}
+use Rattle.rbitcoin_mempool.specs.declared.fee_analog.memory.WindowSizes.{WindowSizes}
+use Rattle.rbitcoin_mempool.proofs.Refusals.{accepted}
 use Rattle.rbitcoin_mempool.proofs.Regions.{region}
 use Rattle.rbitcoin_mempool.proofs.Values.{back-kept, back-moved, front_kept, front-moved, valid_same, windows-eq}
 
@@ -36,10 +40,6 @@ module _ (w : Windows) (v : ValidIn w) where
       (length_regions s.capacity to s.start s.count s.tracked w.aheads p i v.aheads_fit)
 
 -- windows with room for one more after the newest, or before the oldest
-abbrev pub Room : Bool → AnalogHistory → Type 0
-Room true s = s.start + s.count < s.capacity
-Room false s = 0 < s.start
-
 pub record OpenAt (newest : Bool) (w : Windows) : Type 0 where
   pub valid : ValidIn w
   pub room : Room newest w.state
@@ -58,6 +58,12 @@ module _ (w : Windows) (v : ValidIn w) (r : w.state.count < w.state.capacity) wh
       (λ l. subst (OpenAt false) (front_kept w (λ e. omega arith)) (record { valid = v; room = l }))
       (eq-or-lt_of_le (let z : 0 ≤ w.state.start = zero-le in z))
 
+-- the windows u once there is room, where w accepts a push
+pub opened-at : (w u : Windows) (newest : Bool) → push_refusal_of w ≡ 0 → u ≡ room_of newest w → OpenAt newest u
+opened-at w u newest z r =
+    let o = accepted _ _ _ _ z in
+    subst (OpenAt newest) (sym r) (room_open w o.valid o.room newest)
+
 -- where what is held starts with one more, and the place of that one
 abbrev pub first_of : Bool → AnalogHistory → ℕ
 first_of newest s = cond newest s.start (s.start - 1)
@@ -65,19 +71,12 @@ first_of newest s = cond newest s.start (s.start - 1)
 abbrev pub place_of : Bool → AnalogHistory → ℕ
 place_of newest s = cond newest (s.start + s.count) (s.start - 1)
 
-abbrev pub store_of : Bool → ℕ → Windows → Windows
-store_of newest h w = cond newest (store_back h w) (store_front h w)
-
 module _ (w : Windows) (h : ℕ) where
   pub stored_at : (newest : Bool) (t : AnalogHistory) (first place : ℕ) → t ≡ at w.state first (w.state.count + 1) → first ≡ first_of newest w.state → place ≡ place_of newest w.state
       → windows t (set w.hurdles place h) w.befores w.aheads ≡ store_of newest h w
   unfolding store_back store_front
   stored_at true t first place a b c = cc
   stored_at false t first place a b c = cc
-
-  pub place-within : (newest : Bool) → OpenAt newest w → place_of newest w.state < w.state.capacity
-  place-within true o = o.room
-  place-within false o = let i = o.room in let j = o.valid.within in omega arith
 
   pub store_valid : (newest : Bool) → OpenAt newest w → ValidIn (store_of newest h w)
   store_valid newest o =
@@ -100,9 +99,18 @@ module _ (w : Windows) (h : ℕ) where
   push-refused true e = sym (rw (ne_eqb (push_refusal_of w) 0 e))
   push-refused false e = sym (rw (ne_eqb (push_refusal_of w) 0 e))
 
-pub pairs-put : (newest : Bool) (t : AnalogHistory) (hs : List ℕ) (bs cs : List Float) (ds es : List ℕ)
+pub pairs-put : (newest : Bool) (t : AnalogHistory) (hs gs : List ℕ) (bs cs : List Float) (ds es : List ℕ)
+    → gs ≡ hs
     → cs ≡ each_target (put before_at newest t (held t hs)) t.tracked bs
     → es ≡ each_target (put ahead_at newest t (held t hs)) t.tracked ds
-    → windows t hs cs es ≡ with_pairs newest (windows t hs bs ds)
+    → windows t gs cs es ≡ with_pairs newest (windows t hs bs ds)
 unfolding with_pairs
-pairs-put newest t hs bs cs ds es q r = windows-eq refl refl q r
+pairs-put newest t hs gs bs cs ds es p q r = windows-eq refl p q r
+
+-- the sizes of lent memory, as they were asked for
+module _ (s : AnalogHistory) (m : WindowMemory) (z : WindowSizes) (e : z ≡ lent_sizes m) where
+  pub push-sized : push_refusal s z.hurdles z.befores z.aheads ≡ push_refusal_of (windows_of s m)
+  push-sized = ap (λ (y : WindowSizes). push_refusal s y.hurdles y.befores y.aheads) e
+
+  pub rebuild-sized : (xs : List ℕ) → rebuild_refusal (length xs) s z.hurdles z.befores z.aheads ≡ rebuild_refusal_of xs (windows_of s m)
+  rebuild-sized xs = ap (λ (y : WindowSizes). rebuild_refusal (length xs) s y.hurdles y.befores y.aheads) e

@@ -1,18 +1,14 @@
 -- Laws of a new window's pair: where it lies, and that the parts of memory that the code reads are parts of the held hurdles. Assumes nothing.
-use Rattle.std.proofs.Common.{◌≡◌, ℕ, zero, suc, ◌+◌, ◌-◌, ◌*◌, ◌<◌, ◌≤◌, Bool, true, false, List, [], ◌∷◌, length, take, drop, set, sym, refl, ap, ◌∙◌, arith, take-take, drop-drop, le-leb}
+use Rattle.std.proofs.Common.{◌≡◌, ℕ, zero, suc, ◌+◌, ◌-◌, ◌<◌, ◌≤◌, Bool, true, false, List, [], ◌∷◌, length, take, drop, set, sym, refl, ap, ◌∙◌, arith, take-take, drop-drop, le-leb}
 use borrow.Author.Tests.{lt-leb}
 use Rattle.slices.specs.Least.{least_of}
 use Rattle.rbitcoin_mempool.specs.Median.{analog_lookback, ln_rate, lookback_part, median_of}
 use Rattle.rbitcoin_mempool.specs.Pairs.{ahead_at, ahead_of, before_at}
-use Rattle.rbitcoin_mempool.specs.Windows.{Valid, held, new_window, place, put, target_at}
+use Rattle.rbitcoin_mempool.specs.Windows.{held, new_window, place, put, target_at}
 use Rattle.rbitcoin_mempool.specs.declared.fee_analog.history.AnalogHistory.{AnalogHistory}
+use lib.Ieee.{Float}
 use Rattle.rbitcoin_mempool.proofs.Medians.{lookback-inside}
 use Rattle.rbitcoin_mempool.proofs.Parts.{length-held}
-use Rattle.rbitcoin_mempool.proofs.Regions.{region, region-fits}
-
-pub lookback-least : (target : ℕ) → (3 ≤ analog_lookback target) × (analog_lookback target ≤ 144)
-unfolding analog_lookback
-lookback-least target = omega arith
 
 pub ahead-least : (target : ℕ) → 1 ≤ ahead_of target
 unfolding ahead_of
@@ -23,34 +19,6 @@ pub window-lies : (newest : Bool) (count target : ℕ) → analog_lookback targe
     → (analog_lookback target ≤ new_window newest count target) × (new_window newest count target + ahead_of target ≤ count)
 window-lies true count target h = omega arith
 window-lies false count target h = omega arith
-
-pub record Lies (s : AnalogHistory) (d t h b a : ℕ) : Type 0 where
-  pub after : analog_lookback (target_at s d) ≤ t
-  pub before_end : t + ahead_of (target_at s d) ≤ s.count
-  pub some : 3 ≤ analog_lookback (target_at s d)
-  pub more : 1 ≤ ahead_of (target_at s d)
-  pub fits : d * s.capacity + (s.start + t) < 1048576
-  pub in-befores : d * s.capacity + (s.start + t) < b
-  pub in-aheads : d * s.capacity + (s.start + t) < a
-
-pub lies : (s : AnalogHistory) (newest : Bool) (d t h b a : ℕ) → Valid s h b a → d < s.tracked → analog_lookback (target_at s d) + ahead_of (target_at s d) ≤ s.count
-    → t ≡ new_window newest s.count (target_at s d) → Lies s d t h b a
-lies s newest d t h b a v k e q =
-    let w = window-lies newest s.count (target_at s d) e in
-    let l = lookback-least (target_at s d) in
-    let m = ahead-least (target_at s d) in
-    let r : d * s.capacity + s.capacity ≤ s.tracked * s.capacity = region d s.tracked s.capacity k in
-    let f : d * s.capacity + s.capacity ≤ 1048576 = region-fits d s.tracked s.capacity k v.few v.small in
-    let z = v.within in
-    record {
-      after = rw q w.0;
-      before_end = rw q w.1;
-      some = l.0;
-      more = m;
-      fits = let x : t + ahead_of (target_at s d) ≤ s.count = rw q w.1 in omega arith;
-      in-befores = let x : t + ahead_of (target_at s d) ≤ s.count = rw q w.1 in let y = v.befores_fit in omega arith;
-      in-aheads = let x : t + ahead_of (target_at s d) ≤ s.count = rw q w.1 in let y = v.aheads_fit in omega arith;
-    }
 
 -- a part of the first c elements
 part-take : {A : Type 0} (ys : List A) (a m c : ℕ) → a + m ≤ c → take m (drop a (take c ys)) ≡ take m (drop a ys)
@@ -89,3 +57,19 @@ module _ {A : Type 0} (value : List ℕ → ℕ → ℕ → A) (newest : Bool) (
       → set xs (place s d t) x ≡ put value newest s hs d xs
   unfolding put
   put_some t x h e v = sym (rw (le-leb _ _ h, ← e, ← v))
+
+-- the new window's pair, as the code finds it in the lent hurdles
+module _ (newest : Bool) (s : AnalogHistory) (hs ls : List ℕ) (d t : ℕ) (same : ls ≡ hs)
+    (inside : s.start + s.count ≤ length hs) (enough : analog_lookback (target_at s d) + ahead_of (target_at s d) ≤ s.count) where
+  pub before_put : (k m : ℕ) (r : Float) (xs : List Float) → t ≡ new_window newest s.count (target_at s d) → k ≡ analog_lookback (target_at s d)
+      → m ≡ median_of (lookback_part ls (s.start + t) k) → r ≡ ln_rate m → set xs (place s d t) r ≡ put before_at newest s (held s hs) d xs
+  before_put k m r xs e f g h =
+      let l = window-lies newest s.count (target_at s d) enough in
+      put_some before_at newest s (held s hs) d xs t r enough e
+      (h ∙ ap ln_rate g ∙ rw (same, f) (lookback-held s hs (target_at s d) t (rw e l.0) (omega arith) inside))
+
+  pub ahead_put : (k m : ℕ) (xs : List ℕ) → t ≡ new_window newest s.count (target_at s d) → k ≡ ahead_of (target_at s d)
+      → m ≡ least_of (take k (drop (s.start + t) ls)) → set xs (place s d t) m ≡ put ahead_at newest s (held s hs) d xs
+  ahead_put k m xs e f g =
+      let l = window-lies newest s.count (target_at s d) enough in
+      put_some ahead_at newest s (held s hs) d xs t m enough e (g ∙ rw (same, f) (window-held s hs (target_at s d) t (rw e l.1)))

@@ -1,7 +1,7 @@
 -- Laws of a rebuild: the turns of its loop, that it holds the hurdles it was given, and that it changes neither targets nor capacity. Assumes nothing.
-use Rattle.std.proofs.Common.{◌≡◌, ℕ, ◌+◌, ◌<◌, ◌≤◌, Bool, true, false, cond, eqb, List, [], ◌∷◌, ◌++◌, length, get_or, drop, sym, refl, ap, ◌∙◌, subst, ⊎_elim, append_assoc, append-nil, add-one, arith, length-append, drop_of_length-le, drop-cons, eq-eqb, ne_eqb}
+use Rattle.std.proofs.Common.{◌≡◌, ℕ, ◌+◌, ◌/◌, ◌<◌, ◌≤◌, Bool, true, false, cond, eqb, List, [], ◌∷◌, ◌++◌, length, get_or, drop, sym, refl, ap, ◌∙◌, subst, ⊎_elim, append_assoc, append-nil, add-one, arith, length-append, drop_of_length-le, drop-cons, eq-eqb, ne_eqb}
 use Rattle.rbitcoin_mempool.specs.Reached.{SetUpAs}
-use Rattle.rbitcoin_mempool.specs.Windows.{WellStored, Windows, emptied, held, held_in, push_all, push_back_of, push_refusal_of, rebuild_refusal_of, rebuilt_of}
+use Rattle.rbitcoin_mempool.specs.Windows.{WellStored, Windows, emptied, free_of, held, held_in, moved_to, push_all, push_back_of, push_refusal_of, rebuild_refusal_of, rebuilt_of, room_back, store_back, with_pairs}
 use Rattle.rbitcoin_mempool.proofs.Kept.{Good, empty_good, good-stored, push-back_good}
 use Rattle.rbitcoin_mempool.proofs.Parts.{length-held}
 use Rattle.rbitcoin_mempool.proofs.Pushes.{ValidIn}
@@ -19,6 +19,14 @@ all_turn xs i w u v h e inv =
 pub all_done : (xs : List ℕ) (i : ℕ) (w u : Windows) → length xs ≤ i → push_all (drop i xs) w ≡ u → w ≡ u
 unfolding push_all
 all_done xs i w u h inv = sym (ap (λ (l : List ℕ). push_all l w) (drop_of_length-le xs h)) ∙ inv
+
+pub push-back-count : (w : Windows) (x : ℕ) → push_refusal_of w ≡ 0 → (push_back_of x w).state.count ≡ w.state.count + 1
+unfolding push_back_of with_pairs store_back room_back moved_to
+push-back-count w x z = rw (eq-eqb (push_refusal_of w) 0 z) (by (eqb (w.state.start + w.state.count) w.state.capacity))
+  where
+    by : (b : Bool) → (with_pairs true (store_back x (cond b (moved_to (free_of w.state / 4) w) w))).state.count ≡ w.state.count + 1
+    by true = refl
+    by false = refl
 
 all_good : (xs : List ℕ) (w : Windows) → Good w → Good (push_all xs w)
 unfolding push_all
@@ -57,7 +65,7 @@ module _ (xs : List ℕ) (w : Windows) where
         let v = (rebuild-accepted (length xs) w.state _ _ _ z).0 in
         record { few = v.few; small = v.small; within = omega arith; hurdles_fit = v.hurdles_fit; befores_fit = v.befores_fit; aheads_fit = v.aheads_fit }
 
-    empty-is_good : Good (emptied w)
+    pub empty-is_good : Good (emptied w)
     empty-is_good = empty_good (emptied w) empty_valid refl
 
     pub rebuilt-stored : WellStored (rebuilt_of xs w)

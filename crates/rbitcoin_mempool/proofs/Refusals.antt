@@ -1,10 +1,17 @@
 -- What a refusal of 0 tells of a state and of the memory lent to it. Assumes nothing.
-use Rattle.std.proofs.Common.{◌≡◌, ℕ, zero, suc, ◌+◌, ◌-◌, ◌*◌, ◌<◌, ◌≤◌, Bool, true, false, cond, eqb, ltb, ◌⊎◌, List, sym, refl, ap, ◌∙◌, inl, inr, mul-le-mul, arith, ltb-false, le-ltb, eq-eqb, ne_eqb}
+use Rattle.std.proofs.Common.{◌≡◌, ℕ, zero, suc, ◌+◌, ◌-◌, ◌*◌, ◌<◌, ◌≤◌, Bool, true, false, cond, eqb, ltb, ◌⊎◌, List, sym, refl, ap, ◌∙◌, inl, inr, ⊎_elim, mul-le-mul, arith, ltb-false, le-ltb, eq-eqb, ne_eqb}
 use borrow.Author.Tests.{eqb-false}
 use Rattle.rbitcoin_mempool.specs.declared.fee_analog.history.AnalogHistory.{AnalogHistory}
-use Rattle.rbitcoin_mempool.specs.Outcome.{done, refused, verdict_of}
+use Rattle.std.specs.Prelude.{Ok, Err}
+use Rattle.std.specs.Result.{IsErrAnd}
+use Rattle.std.specs.declared.result.Result.{Result}
+use Rattle.std.proofs.lemmas.Bool.Decides.{nat_tests}
+use Rattle.rbitcoin_mempool.specs.declared.answer.Refusal.{Refusal}
+use Rattle.rbitcoin_mempool.specs.declared.answer.Refusal.TheVariants.{Unpaired, Descending, TooManyTargets, Full, Short, Empty, Confidence, Mark}
+use Rattle.rbitcoin_mempool.specs.Refusal.{number}
+use Rattle.rbitcoin_mempool.specs.Outcome.{done, refused, refusal_of, verdict, verdict_of}
 use Rattle.rbitcoin_mempool.specs.Scan.{scan_refusal}
-use Rattle.rbitcoin_mempool.specs.Windows.{Valid, at, fresh, lent_refusal, open_refusal, opened, or_else, popped, push_refusal, rebuild_refusal, size_refusal, state_refusal, unopened}
+use Rattle.rbitcoin_mempool.specs.Windows.{Valid, at, fresh, lent_refusal, open_refusal, opened, or_else, popped, push_refusal, rebuild_refusal, size_refusal, state_refusal}
 
 pub zero_or_not : (n : ℕ) → (n ≡ 0) ⊎ (n ≡ 0 → ⊥)
 zero_or_not zero = inl refl
@@ -30,18 +37,12 @@ unfolding verdict_of
 refusing zero e = absurd (e refl)
 refusing (suc n) e = refl
 
--- a first answer and then a second: the first stands unless it is 0, and a 4 stands where its test holds
+-- a first answer and then a second: the first stands unless it is 0
 pub first_stands : (x y r : ℕ) → r ≡ x → (r ≡ 0 → ⊥) → r ≡ or_else x y
 first_stands x y r e n = e ∙ sym (or-else-first x y (λ q. n (e ∙ q)))
 
 pub then_second : (x y r q : ℕ) → r ≡ x → r ≡ 0 → q ≡ y → q ≡ or_else x y
 then_second x y r q e z p = p ∙ sym (or-else_second x y (sym e ∙ z))
-
-pub chosen : (b : Bool) → b ≡ true → ◌≡◌ {A = ℕ} 4 (cond b 4 0)
-chosen b e = rw e
-
-pub unchosen : (b : Bool) → b ≡ false → ◌≡◌ {A = ℕ} 0 (cond b 4 0)
-unchosen b e = rw e
 
 pub record Sound (s : AnalogHistory) : Type 0 where
   pub few : s.tracked ≤ 16
@@ -58,6 +59,44 @@ sound s e =
 
 pub places-fit : (m n : ℕ) → m ≤ 16 → n ≤ 65536 → m * n ≤ 1048576
 places-fit m n p q = mul-le-mul p q
+
+pub sound_places : (s : AnalogHistory) → state_refusal s ≡ 0 → s.tracked * s.capacity ≤ 1048576
+sound_places s e = let v = sound s e in places-fit s.tracked s.capacity v.few v.small
+
+pub ruleset size_tests = (nat_tests, sound_places)
+
+numbered : (k : Refusal) → 0 < number k
+numbered Unpaired = omega arith
+numbered Descending = omega arith
+numbered TooManyTargets = omega arith
+numbered Full = omega arith
+numbered Short = omega arith
+numbered Empty = omega arith
+numbered Confidence = omega arith
+numbered Mark = omega arith
+
+pub some_number : (k : Refusal) (x : ℕ) → number k ≡ x → x ≡ 0 → ⊥
+some_number k x e z = let p : 0 < number k = numbered k in omega arith
+
+-- a refusal passed on by `?`
+pub verdict_passed : {A : Type 0} (q : Result A Refusal) (k : Refusal) (x : ℕ) → IsErrAnd q (λ e. e ≡ k) → number k ≡ x → verdict q ≡ verdict_of x
+verdict_passed (Ok a) k x h e = absurd h
+verdict_passed (Err j) k x h e = rw (h, ← e) (refusing (number k) (some_number k _ refl))
+
+pub verdict_done : (x : ℕ) → 0 ≡ x → done ≡ verdict_of x
+unfolding verdict_of
+verdict_done x e = rw (← e)
+
+pub not_refused : (k x : ℕ) → refused k ≡ verdict_of x → x ≡ 0 → ⊥
+unfolding verdict_of
+not_refused k x e z = let f : refused k ≡ done = rw z at e in absurd (cc)
+
+-- a first question refused, and passed on by `?`
+pub passed_on : {A : Type 0} (q : Result A Refusal) (k : Refusal) (x y : ℕ) → IsErrAnd q (λ e. e ≡ k) → number k ≡ x → refusal_of q ≡ or_else x y
+passed_on (Ok a) k x y h e = absurd h
+passed_on (Err j) k x y h e = rw h (e ∙ sym (or-else-first x y (some_number k x e)))
+
+pub ruleset refusal_steps = (nat_tests, passed_on)
 
 pub lent : (s : AnalogHistory) (h b a : ℕ) → lent_refusal s h b a ≡ 0 → Valid s h b a
 unfolding lent_refusal size_refusal
@@ -107,6 +146,13 @@ module _ (s : AnalogHistory) (to : ℕ) where
   unfolding popped
   popped-some e n = sym (rw (eq-eqb (state_refusal s) 0 e, ne_eqb s.count 0 n))
 
+pub popped_back : (s : AnalogHistory) → state_refusal s ≡ 0 → at s s.start (s.count - 1) ≡ popped s.start s
+popped_back s e =
+    ⊎_elim
+    (λ n. ap (at s s.start) (let z : s.count - 1 ≡ s.count = omega arith in z) ∙ popped-none s s.start e n)
+    (λ n. popped-some s s.start e n)
+    (zero_or_not s.count)
+
 -- valid windows are accepted: with room by a push and by a rebuild, with scratch of the capacity by a scan
 module _ (s : AnalogHistory) (h b a : ℕ) (v : Valid s h b a) where
   pub valid-state : state_refusal s ≡ 0
@@ -139,18 +185,12 @@ scan-accepted s h b a z e =
     let p = or-else-zero (lent_refusal s h b a) _ e in
     (lent s h b a p.0, ltb-false _ _ (not_chosen (ltb z s.capacity) 5 0 (omega arith) p.1).0)
 
--- an opening, by the refusal r of the state s that it would return
-module _ (targets : List ℕ) (capacity h b a : ℕ) (s : AnalogHistory) (r : ℕ) (e : s ≡ fresh targets capacity) (q : r ≡ lent_refusal s h b a) where
-  open_by : r ≡ open_refusal targets capacity h b a
+-- an opening, by the state s that it would return
+module _ (targets : List ℕ) (capacity h b a : ℕ) (s : AnalogHistory) (e : s ≡ fresh targets capacity) where
+  pub open_by : lent_refusal s h b a ≡ open_refusal targets capacity h b a
   unfolding open_refusal
-  open_by = q ∙ ap (λ (t : AnalogHistory). lent_refusal t h b a) e
+  open_by = ap (λ (t : AnalogHistory). lent_refusal t h b a) e
 
-  pub open-refused : (r ≡ 0 → ⊥) → (refused r ≡ verdict_of (open_refusal targets capacity h b a)) × (unopened ≡ opened targets capacity h b a)
+  pub open_done : lent_refusal s h b a ≡ 0 → s ≡ opened targets capacity h b a
   unfolding opened
-  open-refused n = (refusing r n ∙ ap verdict_of open_by, sym (rw (ne_eqb (open_refusal targets capacity h b a) 0 (λ z. n (open_by ∙ z)))))
-
-  pub open_done : r ≡ 0 → (done ≡ verdict_of (open_refusal targets capacity h b a)) × (s ≡ opened targets capacity h b a)
-  unfolding opened verdict_of
-  open_done z =
-      let y : open_refusal targets capacity h b a ≡ 0 = sym open_by ∙ z in
-      (rw y, e ∙ sym (rw (eq-eqb (open_refusal targets capacity h b a) 0 y)))
+  open_done z = e ∙ sym (rw (eq-eqb (open_refusal targets capacity h b a) 0 (sym open_by ∙ z)))

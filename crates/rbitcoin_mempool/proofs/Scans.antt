@@ -1,5 +1,18 @@
 -- Laws of a scan: the parts of memory that hold a target's pairs, and its answer by the tests that the code makes. Assumes nothing.
 use Rattle.std.proofs.Common.{◌≡◌, ℕ, zero, suc, ◌+◌, ◌-◌, ◌*◌, ◌<◌, ◌≤◌, Bool, true, false, ◌&&◌, eqb, leb, List, ◌∷◌, length, get_or, take, drop, sym, refl, ap, ◌∙◌, ap₂, arith, length-drop, length-take-le, le-ltb, lt-ltb, eqb-true, le-leb}
+use Rattle.std.specs.Prelude.{Ok, Err}
+use Rattle.std.specs.Result.{IsErrAnd}
+use Rattle.std.specs.declared.result.Result.{Result}
+use Rattle.rbitcoin_mempool.specs.declared.answer.Refusal.{Refusal}
+use Rattle.rbitcoin_mempool.specs.Refusal.{number}
+use Rattle.rbitcoin_mempool.specs.Counted.{counted}
+use Rattle.rbitcoin_mempool.specs.Answer.{answer}
+use Rattle.std.specs.declared.option.Option.{Option}
+use Rattle.rbitcoin_mempool.specs.Memory.{sizes_of}
+use Rattle.rbitcoin_mempool.specs.Scan.{scan_refusal}
+use Rattle.rbitcoin_mempool.specs.declared.fee_analog.memory.WindowLists.{WindowLists}
+use Rattle.rbitcoin_mempool.specs.declared.fee_analog.memory.WindowSizes.{WindowSizes}
+use Rattle.rbitcoin_mempool.proofs.Refusals.{some_number}
 use lib.Ieee.{Float, nan}
 use borrow.Author.Tests.{lt-leb}
 use Rattle.slices.specs.Lists.{tabulate}
@@ -149,6 +162,15 @@ unfolding answer_after
 answer-given zero a e = refl
 answer-given (suc r) a e = absurd (let f : ⊥ = omega arith in f)
 
+pub answer-passed : (q : Result (Option ℕ) Refusal) (k : Refusal) (r : ℕ) (a : Answer) → IsErrAnd q (λ e. e ≡ k) → number k ≡ r → answer q ≡ answer_after r a
+answer-passed (Ok o) k r a h e = absurd h
+answer-passed (Err j) k r a h e = rw (h, ← e) (answer-refused (number k) a (some_number k _ refl))
+
+-- the sizes of lent lists, as they were asked for
+pub scan-sized : (s : AnalogHistory) (l : WindowLists) (z : ℕ) (y : WindowSizes) → y ≡ sizes_of l
+    → scan_refusal s y.hurdles y.befores y.aheads z ≡ scan_refusal s (length l.hurdles.now) (length l.befores.now) (length l.aheads.now) z
+scan-sized s l z y e = ap (λ (y : WindowSizes). scan_refusal s y.hurdles y.befores y.aheads z) e
+
 -- ---- the count, by the same tests
 pub count-refused : (r n : ℕ) → (r ≡ 0 → ⊥) → counts.refused r ≡ counted_of r n
 unfolding counted_of
@@ -159,6 +181,10 @@ pub count-given : (r n m : ℕ) → r ≡ 0 → m ≡ n → counts.count m ≡ c
 unfolding counted_of
 count-given zero n m e f = rw f
 count-given (suc r) n m e f = absurd (let g : ⊥ = omega arith in g)
+
+pub counted_passed : (q : Result ℕ Refusal) (k : Refusal) (x n : ℕ) → IsErrAnd q (λ e. e ≡ k) → number k ≡ x → counted q ≡ counted_of x n
+counted_passed (Ok a) k x n h e = absurd h
+counted_passed (Err j) k x n h e = rw (h, ← e) (count-refused (number k) n (some_number k _ refl))
 
 module _ (s : AnalogHistory) (n : ℕ) where
   pub counted_tracked : find_target s n < s.tracked → windows_in s.count n ≡ pair_count s n

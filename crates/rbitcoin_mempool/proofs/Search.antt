@@ -1,33 +1,35 @@
 -- The least fitting candidate, from the last one down. Assumes nothing.
-use Rattle.std.proofs.Common.{◌≡◌, ℕ, zero, suc, ◌<◌, ◌≤◌, min, Bool, true, false, cond, leb, List, [], ◌∷◌, length, get_or, drop, sym, refl, ap, ◌∙◌, subst, true≢false, suc-le-suc, zero-le, le_trans, le_refl, le_of_suc-le-suc, not-suc-le-zero, arith, drop_of_length-le, drop-cons, eq-eqb, ne_eqb, leb-false, leb-true}
+use Rattle.std.proofs.Common.{◌≡◌, ℕ, zero, suc, ◌-◌, ◌<◌, ◌≤◌, min, Bool, true, false, cond, leb, List, [], ◌∷◌, length, get_or, drop, sym, refl, ◌∙◌, subst, true≢false, suc-le-suc, zero-le, le_trans, le_refl, le_of_suc-le-suc, not-suc-le-zero, arith, drop_of_length-le, drop-cons, eq-eqb, ne_eqb, leb-false, leb-true}
 use native.Mathlib.Nat.{min-eq_left}
+use mathlib.Core.Option.{Option, some}
+use mathlib.Core.Option.{none as missing}
 use Rattle.rbitcoin_mempool.specs.Answer.{Answer, rate, none, refusal, lesser}
+use Rattle.rbitcoin_mempool.specs.Rates.{as_answer}
+use Rattle.rbitcoin_mempool.specs.Exact.{least}
 use Rattle.rbitcoin_mempool.specs.Capacity.{LeastFit, Unfit, Meant, fits, least_fitting, min_rate_for_capacity}
 
--- what the loop has found
-abbrev pub so_far : Bool → ℕ → Answer
-so_far found best = cond found (rate best) none
-
+-- the candidates from i on, as the loop goes through them from the last one down
 module _ (p : ℕ → ℕ → Bool) (cs ss : List ℕ) (e : length cs ≡ length ss) where
-  pub search-start : (best : ℕ) → so_far false best ≡ least_fitting p (drop (length cs) cs) (drop (length cs) ss)
+  pub search-start : none ≡ least_fitting p (drop (length cs) cs) (drop (length cs) ss)
   unfolding least_fitting
-  search-start best = let l : length cs ≤ length cs = omega arith in rw (drop_of_length-le cs l)
+  search-start = let l : length cs ≤ length cs = omega arith in rw (drop_of_length-le cs l)
 
-  step : (j : ℕ) → j < length cs → least_fitting p (drop j cs) (drop j ss)
-      ≡ cond (p (get_or cs j 0) (get_or ss j 0)) (lesser (get_or cs j 0) (least_fitting p (drop (suc j) cs) (drop (suc j) ss))) (least_fitting p (drop (suc j) cs) (drop (suc j) ss))
-  unfolding least_fitting
-  step j h = rw (drop-cons cs j 0 h, drop-cons ss j 0 (omega arith))
+  module _ (i : ℕ) (above : 0 < i) (within : i ≤ length cs) (best : Option ℕ) (h : as_answer best ≡ least_fitting p (drop i cs) (drop i ss)) where
+    one : least_fitting p (drop (i - 1) cs) (drop (i - 1) ss) ≡ cond (p (get_or cs (i - 1) 0) (get_or ss (i - 1) 0)) (lesser (get_or cs (i - 1) 0) (as_answer best)) (as_answer best)
+    unfolding least_fitting
+    one =
+        let q : i ≡ suc (i - 1) = omega arith in
+        rw (drop-cons cs (i - 1) 0 (omega arith), drop-cons ss (i - 1) 0 (omega arith), subst (λ (n : ℕ). as_answer best ≡ least_fitting p (drop n cs) (drop n ss)) q h)
 
-  lesser_so_far : (found : Bool) (best c : ℕ) → rate (cond found (min c best) c) ≡ lesser c (so_far found best)
-  lesser_so_far true best c = refl
-  lesser_so_far false best c = refl
+    pub search-fits : p (get_or cs (i - 1) 0) (get_or ss (i - 1) 0) ≡ true → (o : Option ℕ) → o ≡ least min (some (get_or cs (i - 1) 0)) best → as_answer o ≡ least_fitting p (drop (i - 1) cs) (drop (i - 1) ss)
+    search-fits f o m = rw (m, one, f) (go best)
+      where
+        go : (b : Option ℕ) → as_answer (least min (some (get_or cs (i - 1) 0)) b) ≡ lesser (get_or cs (i - 1) 0) (as_answer b)
+        go missing = refl
+        go (some r) = refl
 
-  module _ (j : ℕ) (h : j < length cs) (found : Bool) (best : ℕ) (i : so_far found best ≡ least_fitting p (drop (suc j) cs) (drop (suc j) ss)) where
-    pub search-fits : p (get_or cs j 0) (get_or ss j 0) ≡ true → rate (cond found (min (get_or cs j 0) best) (get_or cs j 0)) ≡ least_fitting p (drop j cs) (drop j ss)
-    search-fits f = lesser_so_far found best (get_or cs j 0) ∙ ap (lesser (get_or cs j 0)) i ∙ sym (step j h ∙ rw f)
-
-    pub search-passes : p (get_or cs j 0) (get_or ss j 0) ≡ false → so_far found best ≡ least_fitting p (drop j cs) (drop j ss)
-    search-passes f = i ∙ sym (step j h ∙ rw f)
+    pub search-passes : p (get_or cs (i - 1) 0) (get_or ss (i - 1) 0) ≡ false → as_answer best ≡ least_fitting p (drop (i - 1) cs) (drop (i - 1) ss)
+    search-passes f = rw (one, f)
 
 -- ---- what the answer says
 module _ (p : ℕ → ℕ → Bool) (c : ℕ) (cs : List ℕ) (s : ℕ) (ss : List ℕ) where

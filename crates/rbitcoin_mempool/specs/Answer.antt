@@ -1,7 +1,10 @@
--- Document 01's answers, and which of them each case of `RateAnswer` is. Definitions only.
-use Rattle.std.specs.Prelude.{ℕ, min}
-use Rattle.rbitcoin_mempool.specs.declared.answer.RateAnswer.{RateAnswer}
-use Rattle.rbitcoin_mempool.specs.declared.answer.RateAnswer.TheVariants.{Found, Nothing, Refused}
+-- Document 01's answers, and which of them each case of an answered rate is. Definitions only.
+use Rattle.std.specs.Prelude.{ℕ, min, Some, Ok, Err}
+use Rattle.std.specs.Prelude.{None as Missing}
+use Rattle.std.specs.declared.option.Option.{Option}
+use Rattle.std.specs.declared.result.Result.{Result}
+use Rattle.rbitcoin_mempool.specs.declared.answer.Refusal.{Refusal}
+use Rattle.rbitcoin_mempool.specs.Refusal.{number}
 
 -- a rate with its number, none, or a refusal with its number
 pub data Answer : Type 0 where
@@ -9,10 +12,15 @@ pub data Answer : Type 0 where
   none : Answer
   refusal : ℕ → Answer
 
-abbrev pub answer : RateAnswer → Answer
-answer (Found r) = rate r
-answer Nothing = none
-answer (Refused k) = refusal k
+abbrev pub answer : Result (Option ℕ) Refusal → Answer
+answer (Ok (Some r)) = rate r
+answer (Ok Missing) = none
+answer (Err k) = refusal (number k)
+
+-- of a call that finds a rate wherever it is not refused
+abbrev pub found : Result ℕ Refusal → Answer
+found (Ok r) = rate r
+found (Err k) = refusal (number k)
 
 -- a rate, or a lesser one that is there
 abbrev pub lesser : ℕ → Answer → Answer

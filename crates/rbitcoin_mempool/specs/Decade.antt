@@ -1,5 +1,6 @@
 -- A decade of edges in finer units: the edges of the four decades are roundings of the same 100 numbers. Definitions only.
-use Rattle.std.specs.Prelude.{◌≡◌, ℕ, zero, suc, ◌+◌, ◌*◌, ◌/◌, ◌%◌, ◌^◌, ◌<◌, ◌≤◌}
+use Rattle.std.specs.Prelude.{◌≡◌, ℕ, zero, suc, ◌+◌, ◌*◌, ◌/◌, ◌%◌, ◌^◌, ◌<◌, ◌≤◌, List}
+use Rattle.slices.specs.Lists.{tabulate}
 use Rattle.rbitcoin_mempool.specs.Edges.{min_relay, scale, ln10, series}
 
 -- the edge at j of a decade, with six digits after the first, cut
@@ -33,12 +34,8 @@ abbrev pub eighth_end : ℕ → ℕ
 eighth_end k = (9 + k % 8) * 2 ^ (15 + k / 8)
 
 -- five fine edges in a row, the first at a: those before lie below the eighth k, those after not below its end
-pub record FiveEdges (k a e₀ e₁ e₂ e₃ e₄ : ℕ) : Type 0 where
+pub record FiveEdges (k a : ℕ) (es : List ℕ) : Type 0 where
   pub room : a + 5 ≤ 100
-  pub at₀ : e₀ ≡ fine_edge a
-  pub at₁ : e₁ ≡ fine_edge (a + 1)
-  pub at₂ : e₂ ≡ fine_edge (a + 2)
-  pub at₃ : e₃ ≡ fine_edge (a + 3)
-  pub at₄ : e₄ ≡ fine_edge (a + 4)
+  pub edges : es ≡ tabulate (λ j. fine_edge (a + j)) 0 5
   pub low : (j : ℕ) → j < a → fine_edge j < eighth_start k
   pub high : (j : ℕ) → a + 5 ≤ j → j < 100 → eighth_end k ≤ fine_edge j

@@ -1,4 +1,5 @@
 -- The definitions that the contracts cite, and document 01's cases about them.
+pub mod Refusal
 pub mod Answer
 pub mod Rates
 pub mod Edges
@@ -7,6 +8,7 @@ pub mod Capacity
 pub mod Percentile
 pub mod Depths
 pub mod Hold
+pub mod Lists
 pub mod Target
 pub mod Exact
 pub mod Demand3
@@ -18,6 +20,8 @@ pub mod Pairs
 pub mod Outcome
 pub mod Counted
 pub mod Windows
+pub mod Memory
+pub mod Ends
 pub mod Reached
 pub mod Nearest
 pub mod Scan

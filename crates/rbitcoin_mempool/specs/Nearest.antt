@@ -6,12 +6,16 @@ use Rattle.num.specs.Float.{abs_of, abs_bits}
 use Rattle.num.specs.Ln.{ln_of}
 use Rattle.slices.specs.Sorted.{below, equal}
 use Rattle.rbitcoin_mempool.specs.Pairs.{Pair}
+use Rattle.rbitcoin_mempool.specs.declared.fee_analog.pairs.Pairs.{Pairs}
 
 -- pairs from a list of logarithms and one of outcomes
 unfoldable pub paired : List Float → List ℕ → List Pair
 paired [] vs = []
 paired (b ∷ bs) [] = []
 paired (b ∷ bs) (v ∷ vs) = record { before = b; ahead = v } ∷ paired bs vs
+
+abbrev pub listed : Pairs → List Pair
+listed p = paired p.logs.now p.outcomes.now
 
 -- `ANALOG_BAND`: 1.25 = 5 / 2^2, and its logarithm
 abbrev pub analog_band : Float

@@ -3,19 +3,20 @@ use Rattle.std.specs.Prelude.{ℕ, Bool, cond, List, map, length, ◌==◌, nat_
 use Rattle.std.proofs.Math.Option.{Option, none, some}
 use Rattle.slices.specs.Every.{every}
 use Rattle.slices.specs.Lists.{tabulate}
-use Rattle.rbitcoin_mempool.specs.declared.answer.Rate.{Rate}
-use Rattle.rbitcoin_mempool.specs.declared.answer.Rate.TheVariants.{There, Missing}
-use Rattle.rbitcoin_mempool.specs.declared.answer.Outcome.{Outcome}
+use Rattle.std.specs.Prelude.{Some, None}
+use Rattle.std.specs.declared.option.Option as rust
+use Rattle.std.specs.declared.result.Result.{Result}
+use Rattle.rbitcoin_mempool.specs.declared.answer.Refusal.{Refusal}
 use Rattle.rbitcoin_mempool.specs.Outcome.{verdict, refusal_in}
 use Rattle.rbitcoin_mempool.specs.Answer.{Answer, rate}
 use Rattle.rbitcoin_mempool.specs.Answer.{none as nothing}
 
--- each case of `Rate` and of `Outcome`: a rate there with its number, or missing; no refusal, or a refusal with its number
-abbrev pub given : Rate → Option ℕ
-given (There r) = some r
-given Missing = none
+-- each case of a rate and of an outcome: a rate there with its number, or missing; no refusal, or a refusal with its number
+abbrev pub given : rust.Option ℕ → Option ℕ
+given (Some r) = some r
+given None = none
 
-abbrev pub refused_with : Outcome → Option ℕ
+abbrev pub refused_with : {A : Type 0} → Result A Refusal → Option ℕ
 refused_with o = refusal_in (verdict o)
 
 abbrev pub as_answer : Option ℕ → Answer

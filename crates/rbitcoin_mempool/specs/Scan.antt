@@ -1,5 +1,7 @@
 -- `rate_sat_kvb`, over the hurdles and the pairs. Definitions only.
 use Rattle.std.specs.Prelude.{◌≡◌, ℕ, zero, suc, cond, ◌&&◌, List, length, nat_le, nat_lt, Float}
+use Rattle.std.specs.Prelude.{Some, None}
+use Rattle.std.specs.declared.option.Option.{Option}
 use Rattle.rbitcoin_mempool.specs.Answer.{Answer, rate, none, refusal}
 use Rattle.rbitcoin_mempool.specs.Median.{analog_lookback, ln_rate, lookback_part, median_of}
 use Rattle.rbitcoin_mempool.specs.Quantile.{quantile_of, in_unit}
@@ -7,6 +9,10 @@ use Rattle.rbitcoin_mempool.specs.Pairs.{Pair}
 use Rattle.rbitcoin_mempool.specs.Nearest.{neighbors}
 use Rattle.rbitcoin_mempool.specs.Windows.{Windows, held_in, stored_pairs, find_target, or_else, lent_refusal}
 use Rattle.rbitcoin_mempool.specs.declared.fee_analog.history.AnalogHistory.{AnalogHistory}
+
+-- the number of the first target of n blocks, none where there is none
+abbrev pub target_found : AnalogHistory → ℕ → Option ℕ
+target_found s n = cond (nat_lt (find_target s n) s.tracked) (Some (find_target s n)) None
 
 -- `now`: the logarithm of the median of the newest lookback
 unfoldable pub now_of : List ℕ → ℕ → Float

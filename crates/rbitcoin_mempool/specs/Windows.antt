@@ -127,6 +127,14 @@ store_back x w = windows (at w.state w.state.start (w.state.count + 1)) (slice_s
 unfoldable pub store_front : ℕ → Windows → Windows
 store_front x w = windows (at w.state (w.state.start - 1) (w.state.count + 1)) (slice_set w.hurdles (w.state.start - 1) x) w.befores w.aheads
 
+abbrev pub store_of : Bool → ℕ → Windows → Windows
+store_of newest x w = cond newest (store_back x w) (store_front x w)
+
+-- room for it there
+abbrev pub Room : Bool → AnalogHistory → Type 0
+Room true s = s.start + s.count < s.capacity
+Room false s = 0 < s.start
+
 -- the window of a new hurdle, which is the newest or the oldest held: `k - d.n`, or `d.lookback`
 abbrev pub new_window : Bool → ℕ → ℕ → ℕ
 new_window newest count target = cond newest (count - ahead_of target) (analog_lookback target)

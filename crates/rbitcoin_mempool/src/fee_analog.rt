@@ -1,15 +1,19 @@
 // Historical fee hurdles from windows that looked like now, after fee_analog.rs.
 mod history;
 mod median;
+mod memory;
 mod nearest;
+mod pairs;
 mod put;
 mod quantile;
 mod refusals;
 mod room;
 mod scan;
+mod window;
 
-pub use history::{AnalogHistory, Update};
+pub use history::AnalogHistory;
 pub use median::{analog_lookback, ln_rate, lookback_part, lower_median};
+pub use memory::{WindowLists, WindowMemory, WindowSizes};
 pub use nearest::analog_band;
 pub use quantile::{historical_confidence_far, log_quantile};
 

@@ -4,6 +4,7 @@ mod decade;
 mod depths;
 mod edges;
 mod hold;
+mod marked;
 mod percentile;
 mod publish;
 mod target;
@@ -23,6 +24,7 @@ pub use edges::{
     fine_candidate_rates, first_bucket_above, flow_bucket_edges,
 };
 pub use hold::{enforce_monotone_desc, hold_defined_then_monotone};
+pub use marked::{Marked, MarkedMut};
 pub use percentile::percentile_sat;
-pub use publish::published_depth_rates;
+pub use publish::{DepthLists, published_depth_rates};
 pub use target::{fee_at_target_sat_kvb, lerp_sat_kvb};

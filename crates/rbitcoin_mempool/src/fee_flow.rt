@@ -4,7 +4,9 @@
 ghost use Rattle.std.specs.Prelude.{◌≡◌, false, map, length, if◌then◌else◌};
 ghost use Rattle.std.specs.Float.Ieee.{le};
 ghost use Rattle.num.specs.Float.{of_u64, max_of};
-ghost use Rattle.rbitcoin_mempool.specs.Meter.{half_life_secs, flow_full_wu, least_secs, gap, share_left, decayed, new_meter, decay_to, full, fullness, rates, admit_rates_wu_s, note_admit};
+ghost use Rattle.rbitcoin_mempool.specs.Meter.{half_life_secs, flow_full_wu, least_secs, gap, share_left, decayed};
+ghost use Rattle.rbitcoin_mempool.specs.Meter.{new_meter, decay_to, full, fullness, rates, admit_rates_wu_s};
+ghost use Rattle.rbitcoin_mempool.specs.Meter.{note_admit};
 
 use crate::fee_est::{BLOCK_WEIGHT_WU, SECONDS_PER_BLOCK, bucket_index};
 
@@ -44,7 +46,7 @@ pub fn flow_full_wu() -> f64
 fn secs_between(from: u64, to: u64) -> f64
     ensures { result ≡ gap from to }
 {
-    let ns = num::word::saturating_sub(to, from);
+    let ns = to.saturating_sub(from);
     let whole = num::float::from_u64(ns / 1_000_000_000);
     whole + num::float::from_u64(ns % 1_000_000_000) / 1_000_000_000.0
 }
@@ -60,10 +62,7 @@ fn share_left(dt: f64) -> f64
 fn share_after(dt: f64) -> f64
     ensures { le dt (of_u64 0) ≡ false → result ≡ share_left dt }
 {
-    if dt <= 0.0 {
-        return 1.0;
-    }
-    share_left(dt)
+    if dt <= 0.0 { 1.0 } else { share_left(dt) }
 }
 
 // The share that is left since the clock `last`. The one since the last admission, which is at
@@ -73,12 +72,11 @@ fn share_since(last: u64, last_admit: u64, now: u64, dt: f64, share: f64) -> f64
     ensures { le (gap last now) (of_u64 0) ≡ false → result ≡ share_left (gap last now) }
 {
     let since = secs_between(last, now);
-    if last == last_admit {
-        if since >= LEAST_SECS {
-            return share;
-        }
+    if last == last_admit && since >= LEAST_SECS {
+        share
+    } else {
+        share_after(since)
     }
-    share_after(since)
 }
 
 // A total after a time that leaves a share of it.
@@ -86,10 +84,7 @@ fn decay_total(total: f64, dt: f64, share: f64) -> f64
     requires { le dt (of_u64 0) ≡ false → share ≡ share_left dt }
     ensures { result ≡ decayed dt total }
 {
-    if dt <= 0.0 {
-        return total;
-    }
-    total * share
+    if dt <= 0.0 { total } else { total * share }
 }
 
 // Each rate after such a time, in place.
@@ -101,10 +96,8 @@ fn decay_rates(rates: &mut [f64; 402], dt: f64, share: f64)
     if dt <= 0.0 {
         return;
     }
-    let mut i: usize = 0;
-    while i < 402 {
-        rates[i] = rates[i] * share;
-        i += 1;
+    for rate in rates.iter_mut() {
+        *rate *= share;
     }
 }
 
@@ -112,10 +105,7 @@ fn decay_rates(rates: &mut [f64; 402], dt: f64, share: f64)
 fn decay_clock(last: u64, now: u64, dt: f64) -> u64
     ensures { result ≡ (if le dt (of_u64 0) then last else now) }
 {
-    if dt <= 0.0 {
-        return last;
-    }
-    now
+    if dt <= 0.0 { last } else { now }
 }
 
 impl FeeFlowMeter {
@@ -138,17 +128,16 @@ impl FeeFlowMeter {
     }
 
     // The meter at a later time. Nothing changes unless the time has gone on.
+    #[tactic(auto, unfolding(crate::specs::Meter::decay_to))]
     pub fn decay_to(self, now: u64) -> Self
         ensures { result ≡ decay_to self now }
     {
-        let last = self.last;
-        let dt = secs_between(last, now);
+        let dt = secs_between(self.last, now);
         let share = share_after(dt);
         let mut m = self;
         decay_rates(&mut m.admit_wu_s, dt, share);
-        let total = m.admitted_wu;
-        m.admitted_wu = decay_total(total, dt, share);
-        m.last = decay_clock(last, now, dt);
+        m.admitted_wu = decay_total(m.admitted_wu, dt, share);
+        m.last = decay_clock(m.last, now, dt);
         m
     }
 
@@ -159,17 +148,13 @@ impl FeeFlowMeter {
         num::float::clamp(self.admitted_wu / flow_full_wu(), 0.0, 1.0)
     }
 
-    // The rates of the meter as it stands, as whole numbers.
+    // The rates of the meter as it stands, as whole numbers. The array's `map` took over three times as long.
     pub fn rates(self) -> [u64; 402]
         ensures { result ≡ rates self }
     {
-        let m = self;
         let mut rates = [0u64; 402];
-        let mut i: usize = 0;
-        while i < 402 {
-            let x = m.admit_wu_s[i];
-            rates[i] = num::float::round_to_u64(num::float::max(x, 0.0));
-            i += 1;
+        for i in 0..402 {
+            rates[i] = num::float::round_to_u64(num::float::max(self.admit_wu_s[i], 0.0));
         }
         rates
     }
@@ -179,21 +164,17 @@ impl FeeFlowMeter {
         ensures { result ≡ note_admit self weight_wu rate_sat_per_kvb now }
     {
         let i = bucket_index(rate_sat_per_kvb);
-        let last = self.last;
-        let last_admit = self.last_admit;
         let weight = num::float::from_u64(weight_wu);
-        let dt = num::float::max(secs_between(last_admit, now), LEAST_SECS);
+        let dt = num::float::max(secs_between(self.last_admit, now), LEAST_SECS);
         let kept_dt = share_left(dt);
         let added = weight / dt * (1.0 - kept_dt);
-        let since = secs_between(last, now);
-        let share = share_since(last, last_admit, now, dt, kept_dt);
+        let since = secs_between(self.last, now);
+        let share = share_since(self.last, self.last_admit, now, dt, kept_dt);
         let mut m = self;
         decay_rates(&mut m.admit_wu_s, since, share);
-        let x = m.admit_wu_s[i];
-        m.admit_wu_s[i] = x + added;
-        let total = m.admitted_wu;
-        m.admitted_wu = decay_total(total, since, share) + weight;
-        m.last = decay_clock(last, now, since);
+        m.admit_wu_s[i] += added;
+        m.admitted_wu = decay_total(m.admitted_wu, since, share) + weight;
+        m.last = decay_clock(m.last, now, since);
         m.last_admit = now;
         m
     }
@@ -202,25 +183,22 @@ impl FeeFlowMeter {
     pub fn fullness(&mut self, now: u64) -> f64
         ensures { (self.new ≡ decay_to self.old now) × (result ≡ fullness self.old now) }
     {
-        let next = (*self).decay_to(now);
-        *self = next;
-        (*self).full()
+        *self = self.decay_to(now);
+        self.full()
     }
 
     // The rates (WU/s) of all buckets at a time that the meter is decayed to.
     pub fn admit_rates_wu_s(&mut self, now: u64) -> [u64; 402]
         ensures { (self.new ≡ decay_to self.old now) × (result ≡ admit_rates_wu_s self.old now) }
     {
-        let next = (*self).decay_to(now);
-        *self = next;
-        (*self).rates()
+        *self = self.decay_to(now);
+        self.rates()
     }
 
     // An admission of a weight at a rate.
     pub fn note_admit(&mut self, weight_wu: u64, rate_sat_per_kvb: u64, now: u64)
         ensures { self.new ≡ note_admit self.old weight_wu rate_sat_per_kvb now }
     {
-        let next = (*self).admit(weight_wu, rate_sat_per_kvb, now);
-        *self = next;
+        *self = self.admit(weight_wu, rate_sat_per_kvb, now);
     }
 }

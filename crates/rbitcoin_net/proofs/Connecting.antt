@@ -15,7 +15,7 @@ use Rattle.rbitcoin_mempool.proofs.Views.{push-back-set-up}
 use Rattle.rbitcoin_net.specs.declared.fee_history.HistoricalFeeBlock.{HistoricalFeeBlock}
 use Rattle.rbitcoin_net.specs.declared.fee_history.FeeHistory.{FeeHistory}
 use Rattle.rbitcoin_net.specs.History.{hurdle_of}
-use Rattle.rbitcoin_net.specs.Lent.{Rows, rows, Hashes, Lent, lent, windows_of, lent_refusal}
+use Rattle.rbitcoin_net.specs.Lent.{Rows, Reach, Hashes, Lent, lent, windows_of, lent_refusal}
 use Rattle.rbitcoin_net.specs.Search.{bisect, place_of}
 use Rattle.rbitcoin_net.specs.Hashes.{hash_list, Room, hash_place}
 use Rattle.rbitcoin_net.specs.Cuts.{with_hashes, unkept, cut_at, drop_from}
@@ -25,7 +25,6 @@ use Rattle.rbitcoin_net.proofs.Tables.{either}
 use Rattle.rbitcoin_net.proofs.Search.{place_is}
 use Rattle.rbitcoin_net.proofs.Hashes.{hash-place-is}
 use Rattle.rbitcoin_net.proofs.Refusals.{Serves, serves}
-use Rattle.rbitcoin_net.proofs.CutSound.{cut_alike}
 use Rattle.rbitcoin_net.proofs.SetUps.{drop-set-up, rate-set-up}
 use Rattle.rbitcoin_net.proofs.Inserting.{bisect-within}
 
@@ -77,18 +76,27 @@ module _ (h : ℕ) (s : FeeHistory) (m : Lent) (k : ℕ) (e : k ≡ sizes_of s m
     pub placed : s.start ≤ p → p ≤ s.start + s.count → Placed s m h p
     placed low high = record { lent = sym lent_is ∙ z; place = place; low = low; high = high }
 
+-- memory that is not refused, by the lists' lengths
+pub sizes_taken : (h : ℕ) (s : FeeHistory) (m : Lent) → lent_refusal s m ≡ 0 → 0 ≡ sizes_of s m
+sizes_taken h s m e = sym (lent_is h s m _ refl ∙ e)
+
 -- ---- what the steps ask for
 
 module _ (h p : ℕ) (s : FeeHistory) (m : Lent) (x : Placed s m h p) where
   served : Serves s m
   served = serves s m x.lent
 
-  pub cut_ready : (s.start ≤ p) × (p ≤ s.start + s.count) × (s.start + s.count ≤ length m.rows.marks) × (s.start + s.count ≤ length m.rows.rates) × (s.start + s.count ≤ length m.rows.sizes)
-  cut_ready =
+  pub reached : Reach s m.rows
+  reached =
       let v = served in
       let w = v.rows-within in
       let r = v.rows-reach in
-      (x.low, x.high, omega (arith, r.marks), omega (arith, r.rates), omega (arith, r.sizes))
+      record {
+        heights = omega (arith, r.heights);
+        marks = omega (arith, r.marks);
+        rates = omega (arith, r.rates);
+        sizes = omega (arith, r.sizes);
+      }
 
   pub hashes_ready : (0 ≤ s.hashes) × (s.hashes ≤ length m.hashes.heights)
   hashes_ready = let v = served in (omega arith, omega (arith, v.hashes-few, v.heights-reach))
@@ -96,11 +104,11 @@ module _ (h p : ℕ) (s : FeeHistory) (m : Lent) (x : Placed s m h p) where
   abbrev left : FeeHistory
   left = drop_from h m.rows m.hashes s
 
-  pub left_is : (q : ℕ) (c : FeeHistory) → q ≡ bisect (s.hashes - 0) m.hashes.heights h 0 s.hashes → c ≡ cut_at (rows [] m.rows.marks [] m.rows.sizes) p s → with_hashes q (unkept c) ≡ left
+  pub left_is : (q : ℕ) (c : FeeHistory) → q ≡ bisect (s.hashes - 0) m.hashes.heights h 0 s.hashes → c ≡ cut_at m.rows p s → with_hashes q (unkept c) ≡ left
   unfolding drop_from
   left_is q c d f =
       let b : q ≡ hash_place h (hash_list s.hashes m.hashes) = hash-place-is h (hash_list s.hashes m.hashes) q d in
-      let g = f ∙ cut_alike [] m.rows.heights m.rows.marks [] m.rows.rates m.rows.sizes p s ∙ ap (λ j. cut_at m.rows j s) x.place in
+      let g = f ∙ ap (λ j. cut_at m.rows j s) x.place in
       λ i. with_hashes (b i) (unkept (g i))
 
   left_capacity : left.analog.capacity ≡ s.analog.capacity

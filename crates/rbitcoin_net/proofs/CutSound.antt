@@ -148,31 +148,19 @@ cut-means m z us bs ds h s x = cut-view m z us bs ds (next h) s (good m z us bs 
 
 -- ---- `truncate_above`
 
--- what a cut leaves depends on heights, marks and sizes, and on no byte of a hash
-rows_alike : (pop : AnalogHistory → AnalogHistory) (hs gs ms rs qs zs : List ℕ) (n i : ℕ) (s : FeeHistory) → forget_rows pop (rows hs ms rs zs) i n s ≡ forget_rows pop (rows gs ms qs zs) i n s
-unfolding forget_rows
-rows_alike pop hs gs ms rs qs zs zero i s = refl
-rows_alike pop hs gs ms rs qs zs (suc n) i s = rows_alike pop hs gs ms rs qs zs n (suc i) (forget_row pop (get_or ms i 0) (get_or zs i 0) s)
-
-pub cut_alike : (hs gs ms rs qs zs : List ℕ) (p : ℕ) (s : FeeHistory) → cut_at (rows hs ms rs zs) p s ≡ cut_at (rows gs ms qs zs) p s
-unfolding cut_at
-cut_alike hs gs ms rs qs zs p s = ap (with_rows s.start (p - s.start)) (rows_alike pop_back_of hs gs ms rs qs zs (s.start + s.count - p) p s)
-
-pub truncate_alike : (h : ℕ) (hs ms rs zs ks bs : List ℕ) (s : FeeHistory) → truncate_in h (rows hs ms [] zs) (hashes ks []) s ≡ truncate_in h (rows hs ms rs zs) (hashes ks bs) s
-unfolding drop_from hash_place
-truncate_alike h hs ms rs zs ks bs s = ap (λ (t : FeeHistory). with_hashes (bisect s.hashes ks (next h) 0 s.hashes) (unkept t)) (cut_alike hs hs ms [] rs zs (place_of hs s (next h)) s)
-
 -- the code's cut
-pub truncated : (h k : ℕ) (hs ms zs ks : List ℕ) (s c t : FeeHistory) (p q : ℕ) → k ≡ next h
-    → p ≡ bisect (s.start + s.count - s.start) hs k s.start (s.start + s.count) → q ≡ bisect (s.hashes - 0) ks k 0 s.hashes → c ≡ cut_at (rows [] ms [] zs) p s → t ≡ with_hashes q (unkept c)
-    → t ≡ truncate_in h (rows hs ms [] zs) (hashes ks []) s
+pub truncated : (h k : ℕ) (m : Rows) (z : Hashes) (s c t : FeeHistory) (p q : ℕ) → k ≡ next h
+    → p ≡ bisect (s.start + s.count - s.start) m.heights k s.start (s.start + s.count) → q ≡ bisect (s.hashes - 0) z.heights k 0 s.hashes
+    → c ≡ cut_at m p s → t ≡ with_hashes q (unkept c)
+    → t ≡ truncate_in h m z s
 unfolding drop_from
-truncated h k hs ms zs ks s c t p q n e d f g =
-    let a : p ≡ place_of hs s (next h) = place_is hs s k p e ∙ ap (place_of hs s) n in
-    let b : q ≡ hash_place (next h) (hash_list s.hashes (hashes ks [])) = hash-place-is k (hash_list s.hashes (hashes ks [])) q d ∙ ap (λ j. hash_place j (hash_list s.hashes (hashes ks []))) n in
+truncated h k m z s c t p q n e d f g =
+    let a : p ≡ place_of m.heights s (next h) = place_is m.heights s k p e ∙ ap (place_of m.heights s) n in
+    let l = hash_list s.hashes z in
+    let b : q ≡ hash_place (next h) l = hash-place-is k l q d ∙ ap (λ j. hash_place j l) n in
     g
     ∙ (λ i. with_hashes (b i) (unkept (f i)))
-    ∙ ap (λ (x : FeeHistory). with_hashes (hash_place (next h) (hash_list s.hashes (hashes ks []))) (unkept x)) (cut_alike [] hs ms [] [] zs p s ∙ ap (λ j. cut_at (rows hs ms [] zs) j s) a)
+    ∙ ap (λ j. with_hashes (hash_place (next h) l) (unkept (cut_at m j s))) a
 
 module _ (h : ℕ) (m : Rows) (z : Hashes) (s : FeeHistory) (v : Verdict) (t : FeeHistory) (o : v ≡ verdict_of (truncate_refusal_of s m z)) (e : t ≡ cond (eqb (truncate_refusal_of s m z) 0) (truncate_in h m z s) s) where
   -- memory that serves a sound state is not refused

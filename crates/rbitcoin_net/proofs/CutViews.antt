@@ -10,7 +10,7 @@ use lib.Ieee.{Float}
 use lib.ListN.{get_or}
 use Rattle.num.specs.Word.{saturating_sub}
 use Rattle.slices.specs.Lists.{tabulate}
-use Rattle.rbitcoin_mempool.specs.declared.answer.Rate.TheVariants.{There, Missing}
+use Rattle.std.specs.Prelude.{Some, None}
 use Rattle.rbitcoin_mempool.specs.declared.fee_analog.history.AnalogHistory.{AnalogHistory}
 use Rattle.rbitcoin_mempool.specs.Pairs.{pop_back}
 use Rattle.rbitcoin_mempool.specs.Rates.{given, rate_at}
@@ -58,7 +58,7 @@ cut-is h x =
 
 -- ---- the state's side
 
-rated : (b : Bool) (n : ℕ) → is_some (given (cond b (There n) Missing)) ≡ b
+rated : (b : Bool) (n : ℕ) → is_some (given (cond b (Some n) None)) ≡ b
 rated true n = refl
 rated false n = refl
 

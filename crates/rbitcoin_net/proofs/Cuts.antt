@@ -7,8 +7,8 @@ use native.Mathlib.Omega.{arith}
 use lib.Dec.{eqb}
 use lib.ListN.{get_or}
 use Rattle.num.specs.Word.{saturating_sub}
-use Rattle.rbitcoin_mempool.specs.declared.answer.Rate.{Rate}
-use Rattle.rbitcoin_mempool.specs.declared.answer.Rate.TheVariants.{There, Missing}
+use Rattle.std.specs.declared.option.Option as rust
+use Rattle.std.specs.Prelude.{Some, None}
 use Rattle.rbitcoin_mempool.specs.declared.fee_analog.history.AnalogHistory.{AnalogHistory}
 use Rattle.rbitcoin_mempool.specs.Rates.{given, mark_of}
 use Rattle.rbitcoin_mempool.specs.Windows.{pop_back_of}
@@ -19,7 +19,7 @@ use Rattle.rbitcoin_net.specs.declared.fee_history.FeeHistory.{FeeHistory}
 
 -- a block forgotten, by its cases
 module _ (pop : AnalogHistory → AnalogHistory) (old : HistoricalFeeBlock) (total : ℕ) (s t : FeeHistory) (sum : total ≡ saturating_sub s.txstat_bytes old.txstat_bytes) where
-  abbrev pops : Rate → Bool → Bool
+  abbrev pops : rust.Option ℕ → Bool → Bool
   pops r stale = eqb (mark_of (given r)) 1 && not stale
 
   pub forget-stale : s.analog_stale ≡ true → t ≡ with_sums s.analog total s → t ≡ forget_block pop old s
@@ -28,24 +28,24 @@ module _ (pop : AnalogHistory → AnalogHistory) (old : HistoricalFeeBlock) (tot
       let g : pops old.p10_sat_kvb s.analog_stale ≡ false = ap (pops old.p10_sat_kvb) b ∙ go old.p10_sat_kvb in
       e ∙ rw (g, sum)
     where
-      go : (r : Rate) → pops r true ≡ false
-      go (There n) = refl
-      go Missing = refl
+      go : (r : rust.Option ℕ) → pops r true ≡ false
+      go (Some n) = refl
+      go None = refl
 
-  pub forget-missing : old.p10_sat_kvb ≡ Missing → t ≡ with_sums s.analog total s → t ≡ forget_block pop old s
+  pub forget-missing : old.p10_sat_kvb ≡ None → t ≡ with_sums s.analog total s → t ≡ forget_block pop old s
   unfolding forget_row
   forget-missing r e =
-      let g : pops old.p10_sat_kvb s.analog_stale ≡ false = ap (λ (x : Rate). pops x s.analog_stale) r in
+      let g : pops old.p10_sat_kvb s.analog_stale ≡ false = ap (λ (x : rust.Option ℕ). pops x s.analog_stale) r in
       e ∙ rw (g, sum)
 
-  pub forget_there : (n : ℕ) (a : AnalogHistory) → old.p10_sat_kvb ≡ There n → s.analog_stale ≡ false → a ≡ pop s.analog → t ≡ with_sums a total s → t ≡ forget_block pop old s
+  pub forget_there : (n : ℕ) (a : AnalogHistory) → old.p10_sat_kvb ≡ Some n → s.analog_stale ≡ false → a ≡ pop s.analog → t ≡ with_sums a total s → t ≡ forget_block pop old s
   unfolding forget_row
   forget_there n a r b d e =
       let g : pops old.p10_sat_kvb s.analog_stale ≡ true = (λ i. pops (r i) (b i)) in
       e ∙ rw (g, sum, d)
 
 -- a rate that was read from a mark has mark 1 where that mark is 1
-marked-again : (b : Bool) (n : ℕ) → eqb (mark_of (given (cond b (There n) Missing))) 1 ≡ b
+marked-again : (b : Bool) (n : ℕ) → eqb (mark_of (given (cond b (Some n) None))) 1 ≡ b
 marked-again true n = refl
 marked-again false n = refl
 
@@ -80,7 +80,7 @@ module _ (pop : AnalogHistory → AnalogHistory) (m : Rows) where
   start-stays zero i s = refl
   start-stays (suc n) i s = start-stays n (suc i) (forget_row pop (get_or m.marks i 0) (get_or m.sizes i 0) s)
 
-pub cut-done : (m : Rows) (p : ℕ) (s t : FeeHistory) → t ≡ forget_rows pop_back_of m p (s.start + s.count - p) s → with_rows t.start (p - s.start) t ≡ cut_at m p s
+pub cut-done : (m : Rows) (p : ℕ) (s t : FeeHistory) → t ≡ forget_rows pop_back_of m p (s.start + s.count - p) s → with_rows t.start (p - t.start) t ≡ cut_at m p s
 unfolding cut_at
 cut-done m p s t e =
     let d : t.start ≡ s.start = ap (λ (u : FeeHistory). u.start) e ∙ start-stays pop_back_of m (s.start + s.count - p) p s in

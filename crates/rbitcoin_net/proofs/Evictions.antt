@@ -40,10 +40,10 @@ remove-room h k r = go (is_at k.lists.heights k.count h (hash_place h k)) refl
 
 -- one row evicted
 pub evicted-one : (height mark size left : ℕ) (s t : FeeHistory) (z y : Hashes) → hash_list left y ≡ remove_hash height (hash_list s.hashes z) → t ≡ forget_row pop_front_of mark size s
-    → hashed (with_hashes left (with_rows (s.start + 1) (s.count - 1) t)) y ≡ evict_row height mark size (hashed s z)
-unfolding evict_row
+    → hashed (with_hashes left (with_rows (t.start + 1) (t.count - 1) t)) y ≡ evict_row height mark size (hashed s z)
+unfolding evict_row forget_row
 evicted-one height mark size left s t z y e d =
-    (λ i. hashed (with_hashes (e i).count (with_rows (s.start + 1) (s.count - 1) (d i))) (e i).lists)
+    (λ i. hashed (with_hashes (e i).count (with_rows ((d i).start + 1) ((d i).count - 1) (d i))) (e i).lists)
 
 -- the block at a place is evicted as its row is
 pub evicted-at : (height i : ℕ) (m : Rows) (old : HistoricalFeeBlock) (x y : Hashed) → old ≡ block_at m i → y ≡ evict_block height old x → y ≡ evict_row height (get_or m.marks i 0) (get_or m.sizes i 0) x

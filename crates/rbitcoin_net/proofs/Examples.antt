@@ -5,17 +5,17 @@ use mathlib.Core.Bool.{Bool, true, false}
 use mathlib.Core.List.{List, [], ◌∷◌}
 use mathlib.Core.Option.{Option, none, some}
 use Rattle.slices.specs.Lists.{tabulate}
-use Rattle.rbitcoin_mempool.specs.declared.answer.Rate.TheVariants.{There, Missing}
+use Rattle.std.specs.Prelude.{Some, None}
 use Rattle.rbitcoin_net.specs.declared.fee_history.HistoricalFeeBlock.{HistoricalFeeBlock}
 use Rattle.rbitcoin_net.specs.Map.{Entry, entry, retain, below, above, onward, get, remove, insert, last_key}
 use Rattle.rbitcoin_net.specs.History.{History, new, forget, forget_all, next, truncate_above, newest, evict_one, evict_blocks, evict, hold, insert_of, insert_if_absent_of, hurdles_of, rebuilt}
 
 -- a block of n bytes, with a rate and without
 abbrev rated : ℕ → ℕ → HistoricalFeeBlock
-rated r n = record { p10_sat_kvb = There r; txstat_bytes = n }
+rated r n = record { p10_sat_kvb = Some r; txstat_bytes = n }
 
 abbrev blank : ℕ → HistoricalFeeBlock
-blank n = record { p10_sat_kvb = Missing; txstat_bytes = n }
+blank n = record { p10_sat_kvb = None; txstat_bytes = n }
 
 -- a history of a budget of 1,000 with these blocks, total, hurdles, mark and kept rates
 abbrev over : List (Entry HistoricalFeeBlock) → ℕ → List ℕ → Bool → Option (List (Option ℕ)) → History

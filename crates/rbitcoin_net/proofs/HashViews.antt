@@ -207,7 +207,7 @@ among g f e q r a b n s low here high =
     ∙ ap (λ k. tabulate g 0 q ++ tabulate g k (suc r)) z
     ∙ (λ j. table_ext g f q 0 a (λ i l. let u : 0 + i ≡ i = omega arith in rw u (low i l)) j ++ here j ∷ table_ext g f r (suc q) b high j)
 
-moved-reach : (z : Hashes) (to from n : ℕ) → 144 ≤ length z.heights → 4608 ≤ length z.bytes → to + n ≤ 144 → from + n ≤ 144 → (144 ≤ length (moved_hashes to from n z).heights) × (4608 ≤ length (moved_hashes to from n z).bytes)
+pub moved-reach : (z : Hashes) (to from n : ℕ) → 144 ≤ length z.heights → 4608 ≤ length z.bytes → to + n ≤ 144 → from + n ≤ 144 → (144 ≤ length (moved_hashes to from n z).heights) × (4608 ≤ length (moved_hashes to from n z).bytes)
 moved-reach z to from n hl bl a b =
     let e = length_moved z.heights to from n (omega arith) (omega arith) in
     let d = length_moved z.bytes (32 * to) (32 * from) (32 * n) (omega arith) (omega arith) in

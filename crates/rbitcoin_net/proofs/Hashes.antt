@@ -12,7 +12,9 @@ use Rattle.slices.specs.Lists.{copy_front}
 use Rattle.rbitcoin_net.specs.Lent.{Hashes}
 use Rattle.rbitcoin_net.specs.Search.{bisect, is_at}
 use Rattle.rbitcoin_net.specs.Hashes.{HashList, hash_list, hash_of, moved_hashes, put_hash, hash_place, remove_at, remove_hash, note_at, note_hash_in}
-use Rattle.rbitcoin_net.specs.declared.fee_history.BlockHash.{BlockHash}
+use Rattle.std.specs.declared.option.Option as rust
+use Rattle.rbitcoin_net.specs.declared.fee_history.block_hash.BlockHash.{BlockHash}
+use Rattle.std.specs.Prelude.{Some, None}
 
 -- a list copied over one of the same length
 over : (xs ys : List ℕ) → length ys ≡ length xs → copy_front xs ys ≡ ys
@@ -69,9 +71,9 @@ module _ (q h : ℕ) (bytes : List ℕ) (k : HashList) (z : Hashes) where
     unfolding note_at
     note-above y l n d e = rw (t, le-ltb _ _ l, ne_eqb q 0 n) (ap (hash_list k.count) (e ∙ ap (put_hash (q - 1) h bytes) d))
 
-module _ (h : ℕ) (b : BlockHash) (k : HashList) where
-  pub note-nothing : b.there ≡ false → k ≡ note_hash_in h (hash_of b) k
+module _ (h : ℕ) (b : rust.Option BlockHash) (k : HashList) where
+  pub note-nothing : b ≡ None → k ≡ note_hash_in h (hash_of b) k
   note-nothing e = rw e
 
-  pub note-given : (q : ℕ) (r : HashList) → b.there ≡ true → q ≡ hash_place h k → r ≡ note_at q h b.bytes k → r ≡ note_hash_in h (hash_of b) k
-  note-given q r e d f = f ∙ ap (λ p. note_at p h b.bytes k) d ∙ sym (ap (λ (t : Bool). note_hash_in h (cond t (some b.bytes) none) k) e)
+  pub note-given : (hash : BlockHash) (q : ℕ) (r : HashList) → b ≡ Some hash → q ≡ hash_place h k → r ≡ note_at q h hash.bytes k → r ≡ note_hash_in h (hash_of b) k
+  note-given hash q r e d f = f ∙ ap (λ p. note_at p h hash.bytes k) d ∙ sym (ap (λ (x : rust.Option BlockHash). note_hash_in h (hash_of x) k) e)

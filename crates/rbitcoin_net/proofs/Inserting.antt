@@ -8,13 +8,13 @@ use native.Mathlib.Omega.{arith}
 use lib.Dec.{ltb}
 use lib.ListN.{length, get_or}
 use borrow.Author.Tests.{ltb-true}
-use Rattle.rbitcoin_mempool.specs.declared.answer.Rate.{Rate}
-use Rattle.rbitcoin_mempool.specs.declared.answer.Rate.TheVariants.{There, Missing}
+use Rattle.std.specs.declared.option.Option as rust
+use Rattle.std.specs.Prelude.{Some, None}
 use Rattle.rbitcoin_mempool.specs.Rates.{given, mark_of, number_of}
 use Rattle.rbitcoin_mempool.specs.Windows.{Windows}
+use Rattle.rbitcoin_net.specs.declared.fee_history.block_hash.BlockHash.{BlockHash}
 use Rattle.rbitcoin_net.specs.declared.fee_history.HistoricalFeeBlock.{HistoricalFeeBlock}
 use Rattle.rbitcoin_net.specs.declared.fee_history.FeeHistory.{FeeHistory}
-use Rattle.rbitcoin_net.specs.declared.fee_history.BlockHash.{BlockHash}
 use Rattle.rbitcoin_net.specs.History.{hurdle_of}
 use Rattle.rbitcoin_net.specs.Lent.{Rows, rows, Hashes}
 use Rattle.rbitcoin_net.specs.Search.{bisect}
@@ -29,22 +29,22 @@ use Rattle.rbitcoin_net.proofs.HashViews.{note-room}
 
 -- ---- a rate pushed, by its cases
 
-module _ (push : ℕ → Windows → Windows) (rate : Rate) (stale : Bool) (w : Windows) where
+module _ (push : ℕ → Windows → Windows) (rate : rust.Option ℕ) (stale : Bool) (w : Windows) where
   pub push-stale : stale ≡ true → w ≡ push_rate push (given rate) stale w
   unfolding push_rate
   push-stale e = go rate ∙ ap (λ b. push_rate push (given rate) b w) (sym e)
     where
-      go : (r : Rate) → w ≡ push_rate push (given r) true w
-      go (There n) = refl
-      go Missing = refl
+      go : (r : rust.Option ℕ) → w ≡ push_rate push (given r) true w
+      go (Some n) = refl
+      go None = refl
 
-  pub push_there : (n : ℕ) (y : Windows) → rate ≡ There n → stale ≡ false → y ≡ push n w → y ≡ push_rate push (given rate) stale w
+  pub push_there : (n : ℕ) (y : Windows) → rate ≡ Some n → stale ≡ false → y ≡ push n w → y ≡ push_rate push (given rate) stale w
   unfolding push_rate
   push_there n y r e d = d ∙ sym (λ i. push_rate push (given (r i)) (e i) w)
 
-  pub push-missing : rate ≡ Missing → w ≡ push_rate push (given rate) stale w
+  pub push-missing : rate ≡ None → w ≡ push_rate push (given rate) stale w
   unfolding push_rate
-  push-missing r = sym (ap (λ (x : Rate). push_rate push (given x) stale w) r)
+  push-missing r = sym (ap (λ (x : rust.Option ℕ). push_rate push (given x) stale w) r)
 
 -- ---- a hash noted leaves room, whatever the memory
 
@@ -63,12 +63,10 @@ unfolding hash_place
 noted-room h none len k r = r
 noted-room h (some bytes) len k r = note-room (hash_place h k) h bytes len k r (bisect-within k.lists.heights h k.count 0 k.count (omega arith))
 
-pub hash-whole : (b : BlockHash) → length b.bytes ≡ 32 → Whole32 (hash_of b)
-hash-whole b l = go b.there
-  where
-    go : (t : Bool) → Whole32 (cond t (some b.bytes) none)
-    go true = l
-    go false = record {}
+-- a hash that is there has 32 bytes
+pub hash-whole : (b : rust.Option BlockHash) → Whole32 (hash_of b)
+hash-whole (Some b) = b.whole
+hash-whole None = record {}
 
 -- ---- the three steps
 
@@ -98,25 +96,15 @@ module _ (q h : ℕ) (b : HistoricalFeeBlock) (s : FeeHistory) (m : Rows) where
     pub evict_ready : (t : FeeHistory) (n : Rows) → stored t n ≡ hold_at q h b (stored s m) → Lies (stored t n)
     evict_ready t n e = subst Lies (sym e) lies
 
-pub note_ready : (h c n : ℕ) (hash : BlockHash) (z y : Hashes) → length hash.bytes ≡ 32 → hash_list n y ≡ note_hash_in h (hash_of hash) (hash_list c z) → Room (hash_list c z) → Room (hash_list n y)
-note_ready h c n hash z y l e r = subst Room (sym e) (noted-room h (hash_of hash) (hash-whole hash l) (hash_list c z) r)
-
--- what an eviction leaves does not depend on the rates' numbers
-rows_alike : (hs ms rs qs zs : List ℕ) (n : ℕ) (x : Hashed) → evict_rows (rows hs ms rs zs) n x ≡ evict_rows (rows hs ms qs zs) n x
-unfolding evict_rows
-rows_alike hs ms rs qs zs zero x = refl
-rows_alike hs ms rs qs zs (suc n) x = ap (λ (y : Hashed). cond (ltb x.state.budget x.state.txstat_bytes) y x) (rows_alike hs ms rs qs zs n (evict_oldest (rows hs ms rs zs) x))
-
-evict_alike : (hs ms rs zs : List ℕ) (x : Hashed) → evict_in (rows hs ms [] zs) x ≡ evict_in (rows hs ms rs zs) x
-unfolding evict_in
-evict_alike hs ms rs zs x = rows_alike hs ms [] rs zs x.state.count (hashed (unkept x.state) x.hashes)
+pub note_ready : (h c n : ℕ) (hash : rust.Option BlockHash) (z y : Hashes) → hash_list n y ≡ note_hash_in h (hash_of hash) (hash_list c z) → Room (hash_list c z) → Room (hash_list n y)
+note_ready h c n hash z y e r = subst Room (sym e) (noted-room h (hash_of hash) (hash-whole hash) (hash_list c z) r)
 
 pub stored_all : (q h : ℕ) (b : HistoricalFeeBlock) (hash : Option (List ℕ)) (s t r : FeeHistory) (m : Rows) (z : Hashes) (hs ms rs zs : List ℕ) (y x : Hashes) (n : ℕ)
-    → stored t (rows hs ms rs zs) ≡ hold_at q h b (stored s m) → hash_list n y ≡ note_hash_in h hash (hash_list t.hashes z) → hashed r x ≡ evict_in (rows hs ms [] zs) (hashed (with_hashes n t) y)
+    → stored t (rows hs ms rs zs) ≡ hold_at q h b (stored s m) → hash_list n y ≡ note_hash_in h hash (hash_list t.hashes z) → hashed r x ≡ evict_in (rows hs ms rs zs) (hashed (with_hashes n t) y)
     → filed r (rows hs ms rs zs) x ≡ store_in q h b hash (filed s m z)
 unfolding store_in
 stored_all q h b hash s t r m z hs ms rs zs y x n e d f =
     let after : Stored → HashList → Filed = λ o k. (let v = evict_in o.rows (hashed (with_hashes k.count o.state) k.lists) in filed v.state o.rows v.hashes) in
-    ap (λ (v : Hashed). filed v.state (rows hs ms rs zs) v.hashes) (f ∙ evict_alike hs ms rs zs (hashed (with_hashes n t) y))
+    ap (λ (v : Hashed). filed v.state (rows hs ms rs zs) v.hashes) f
     ∙ ap (after (stored t (rows hs ms rs zs))) d
     ∙ ap (λ (o : Stored). after o (note_hash_in h hash (hash_list o.state.hashes z))) e

@@ -28,3 +28,4 @@ pub mod Rating
 pub mod Rates
 pub mod Sums
 pub mod Runs
+pub mod Passed

@@ -95,17 +95,11 @@ module _ (budget : ℕ) (targets : List ℕ) (c : ℕ) (m : Lent) (t : FeeHistor
     sound = λ y. subst (λ (s : FeeHistory). Sound s m) (sym d) (open-sound budget targets c m z);
   }
 
--- by the code's branches: w is the windows' refusal, a the windows that they left
-module _ (budget : ℕ) (targets : List ℕ) (c : ℕ) (m : Lent) (w : ℕ) (v : Verdict) (a : AnalogHistory) (t : FeeHistory) (answered : w ≡ verdict_number v) (given : v ≡ verdict_of (windows_open_refusal targets c (length m.hurdles) (length m.befores) (length m.aheads))) (left : a ≡ opened_windows targets c (length m.hurdles) (length m.befores) (length m.aheads)) where
-  w-is : w ≡ windows_open_refusal targets c (length m.hurdles) (length m.befores) (length m.aheads)
-  w-is = answered ∙ ap verdict_number given ∙ refusal_is _
-
-  pub new-refused : (w ≡ 0 → ⊥) → t ≡ fresh_of 0 a → Opens budget targets c m (refused w) t
-  unfolding open_refusal opened_windows
-  new-refused n d =
-      let k = windows_open_refusal targets c (length m.hurdles) (length m.befores) (length m.aheads) in
-      let r : k ≡ 0 → ⊥ = λ y. n (w-is ∙ y) in
-      opens-refused budget targets c m t w (first_stands _ _ w w-is n) n (d ∙ ap (fresh_of 0) (left ∙ ap (λ b. cond b (fresh_windows targets c) unopened_windows) (ne_eqb k 0 r)))
+-- by the code's branches: w is the windows' refusal, k the memory's
+module _ (budget : ℕ) (targets : List ℕ) (c : ℕ) (m : Lent) (t : FeeHistory) (w : ℕ) (w-is : w ≡ windows_open_refusal targets c (length m.hurdles) (length m.befores) (length m.aheads)) where
+  pub new-refused : (w ≡ 0 → ⊥) → t ≡ fresh_of 0 unopened_windows → Opens budget targets c m (refused w) t
+  unfolding open_refusal
+  new-refused n d = opens-refused budget targets c m t w (first_stands _ _ w w-is n) n d
 
   module _ (z : w ≡ 0) (k : ℕ) (e : k ≡ memory_refusal c (length m.rows.heights) (length m.rows.marks) (length m.rows.rates) (length m.rows.sizes) (length m.hashes.heights) (length m.hashes.bytes)) where
     whole : k ≡ open_refusal targets c m
@@ -115,7 +109,7 @@ module _ (budget : ℕ) (targets : List ℕ) (c : ℕ) (m : Lent) (w : ℕ) (v :
     pub new_short : (k ≡ 0 → ⊥) → t ≡ fresh_of 0 unopened_windows → Opens budget targets c m (refused k) t
     new_short n d = opens-refused budget targets c m t k whole n d
 
-    pub new-done : k ≡ 0 → t ≡ fresh_of budget a → Opens budget targets c m done t
+    pub new-done : (a : AnalogHistory) → a ≡ opened_windows targets c (length m.hurdles) (length m.befores) (length m.aheads) → k ≡ 0 → t ≡ fresh_of budget a → Opens budget targets c m done t
     unfolding opened_windows
-    new-done y d =
+    new-done a left y d =
         opens-done budget targets c m t (sym whole ∙ y) (d ∙ ap (fresh_of budget) (left ∙ ap (λ b. cond b (fresh_windows targets c) unopened_windows) (eq-eqb _ 0 (sym w-is ∙ z))))

@@ -9,8 +9,8 @@ use lib.Dec.{eqb}
 use lib.Ieee.{Float}
 use lib.ListN.{length}
 use borrow.Author.Tests.{eq-eqb, ne_eqb}
-use Rattle.rbitcoin_mempool.specs.declared.answer.Rate.{Rate}
-use Rattle.rbitcoin_mempool.specs.declared.answer.Rate.TheVariants.{There, Missing}
+use Rattle.std.specs.declared.option.Option as rust
+use Rattle.std.specs.Prelude.{Some, None}
 use Rattle.rbitcoin_mempool.specs.declared.fee_analog.history.AnalogHistory.{AnalogHistory}
 use Rattle.rbitcoin_mempool.specs.Rates.{given}
 use Rattle.rbitcoin_mempool.specs.Windows.{Windows, windows, push_back_of, push_front_of}
@@ -46,7 +46,7 @@ module _ (q n : ℕ) (o : Option ℕ) (stale : Bool) (w : Windows) where
   unfolding preload_windows
   windows-between u v = sym (rw (ne_eqb q n u, ne_eqb q 0 v))
 
-module _ (q n : ℕ) (rate : Rate) (stale : Bool) where
+module _ (q n : ℕ) (rate : rust.Option ℕ) (stale : Bool) where
   pub stale-behind : q ≡ n → stale ≡ preload_stale q n (given rate) stale
   unfolding preload_stale
   stale-behind e = sym (rw (eq-eqb q n e))
@@ -55,13 +55,13 @@ module _ (q n : ℕ) (rate : Rate) (stale : Bool) where
   unfolding preload_stale
   stale-before u e = sym (rw (ne_eqb q n u, eq-eqb q 0 e))
 
-  pub stale_there : (r : ℕ) → (q ≡ n → ⊥) → (q ≡ 0 → ⊥) → rate ≡ There r → true ≡ preload_stale q n (given rate) stale
+  pub stale_there : (r : ℕ) → (q ≡ n → ⊥) → (q ≡ 0 → ⊥) → rate ≡ Some r → true ≡ preload_stale q n (given rate) stale
   unfolding preload_stale
-  stale_there r u v e = sym (rw (ne_eqb q n u, ne_eqb q 0 v) (ap (λ (x : Rate). cond (is_some (given x)) true stale) e))
+  stale_there r u v e = sym (rw (ne_eqb q n u, ne_eqb q 0 v) (ap (λ (x : rust.Option ℕ). cond (is_some (given x)) true stale) e))
 
-  pub stale-missing : (q ≡ n → ⊥) → (q ≡ 0 → ⊥) → rate ≡ Missing → stale ≡ preload_stale q n (given rate) stale
+  pub stale-missing : (q ≡ n → ⊥) → (q ≡ 0 → ⊥) → rate ≡ None → stale ≡ preload_stale q n (given rate) stale
   unfolding preload_stale
-  stale-missing u v e = sym (rw (ne_eqb q n u, ne_eqb q 0 v) (ap (λ (x : Rate). cond (is_some (given x)) true stale) e))
+  stale-missing u v e = sym (rw (ne_eqb q n u, ne_eqb q 0 v) (ap (λ (x : rust.Option ℕ). cond (is_some (given x)) true stale) e))
 
 -- ---- what is refused
 

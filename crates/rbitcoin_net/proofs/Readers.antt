@@ -9,7 +9,7 @@ use lib.ListN.{length, get_or, take, drop}
 use borrow.Author.Tests.{eq-eqb, ne_eqb, le-leb}
 use Rattle.slices.specs.Lists.{tabulate, copy_front}
 use Rattle.slices.proofs.Lists.{tabulate-length, tabulate-same, map_table, part_table}
-use Rattle.rbitcoin_mempool.specs.declared.answer.Rate.TheVariants.{There, Missing}
+use Rattle.std.specs.Prelude.{Some, None}
 use Rattle.rbitcoin_mempool.specs.Counted.{count, refused}
 use Rattle.rbitcoin_mempool.specs.Rates.{mark_of, number_of, given}
 use Rattle.rbitcoin_mempool.proofs.Scans.{count-refused, count-given}
@@ -36,11 +36,11 @@ part-written from xs a n e h f g =
     let l : length (tabulate (λ i. get_or from i 0) a n) ≡ n = tabulate-length (λ i. get_or from i 0) a n in
     rw p (rw l (rw (le-leb n (length xs) g)))
 
-mark-is : (b : Bool) (n : ℕ) → cond b 1 0 ≡ mark_of (given (cond b (There n) Missing))
+mark-is : (b : Bool) (n : ℕ) → cond b 1 0 ≡ mark_of (given (cond b (Some n) None))
 mark-is true n = refl
 mark-is false n = refl
 
-number_is : (b : Bool) (n : ℕ) → cond b n 0 ≡ number_of (given (cond b (There n) Missing))
+number_is : (b : Bool) (n : ℕ) → cond b n 0 ≡ number_of (given (cond b (Some n) None))
 number_is true n = refl
 number_is false n = refl
 

@@ -11,8 +11,8 @@ use borrow.Author.Tests.{le-leb, lt-leb, lt-ltb, le-ltb, eq-eqb, ne_eqb, eqb-fal
 use Rattle.slices.specs.Lists.{tabulate, moved, copy_within}
 use Rattle.slices.proofs.Runs.{copied, length_moved, moved-below, moved_in, moved-above}
 use Rattle.rbitcoin_net.specs.Rooms.{row_put, free_of, start_with, Stored, stored, hold_at, Roomy}
-use Rattle.rbitcoin_mempool.specs.declared.answer.Rate.{Rate}
-use Rattle.rbitcoin_mempool.specs.declared.answer.Rate.TheVariants.{There, Missing}
+use Rattle.std.specs.declared.option.Option as rust
+use Rattle.std.specs.Prelude.{Some, None}
 use Rattle.rbitcoin_mempool.specs.Rates.{given, mark_of, number_of}
 use Rattle.rbitcoin_net.specs.Map.{entry, Ascends, insert}
 use Rattle.rbitcoin_net.specs.History.{hurdle_of}
@@ -148,9 +148,9 @@ row_ext : (y m : Rows) (i j : ℕ) → get_or y.heights i 0 ≡ get_or m.heights
 row_ext y m i j a b c d = λ t. entry (a t) (record { p10_sat_kvb = rate_of (b t) (c t); txstat_bytes = d t })
 
 -- a rate as a mark and a number, and back
-rate-back : (r : Rate) → rate_of (mark_of (given r)) (number_of (given r)) ≡ r
-rate-back (There n) = refl
-rate-back Missing = refl
+rate-back : (r : rust.Option ℕ) → rate_of (mark_of (given r)) (number_of (given r)) ≡ r
+rate-back (Some n) = refl
+rate-back None = refl
 
 module _ (q h : ℕ) (b : HistoricalFeeBlock) (s : FeeHistory) (m : Rows) (p : Roomy q s (length m.heights) (length m.marks) (length m.rates) (length m.sizes)) where
   abbrev after : Stored

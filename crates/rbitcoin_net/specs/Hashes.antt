@@ -4,7 +4,9 @@ use Rattle.std.proofs.Math.Option.{Option, none, some}
 use Rattle.slices.specs.Lists.{moved}
 use Rattle.rbitcoin_net.specs.Lent.{Hashes, hashes}
 use Rattle.rbitcoin_net.specs.Search.{bisect, is_at}
-use Rattle.rbitcoin_net.specs.declared.fee_history.BlockHash.{BlockHash}
+use Rattle.std.specs.Prelude.{Some, None}
+use Rattle.std.specs.declared.option.Option as rust
+use Rattle.rbitcoin_net.specs.declared.fee_history.block_hash.BlockHash.{BlockHash}
 
 -- the number of hashes, with the two lists
 pub record HashList : Type 0 where
@@ -15,8 +17,9 @@ abbrev pub hash_list : ℕ → Hashes → HashList
 hash_list n z = record { count = n; lists = z }
 
 -- a hash that is there, or none
-abbrev pub hash_of : BlockHash → Option (List ℕ)
-hash_of b = cond b.there (some b.bytes) none
+abbrev pub hash_of : rust.Option BlockHash → Option (List ℕ)
+hash_of (Some b) = some b.bytes
+hash_of None = none
 
 -- a hash of 32 bytes, if it is there
 abbrev pub Whole32 : Option (List ℕ) → Type 0

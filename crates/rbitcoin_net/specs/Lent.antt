@@ -1,9 +1,9 @@
 -- The lent memory, what a state with it stands for, and who is refused. Definitions only.
-use Rattle.std.specs.Prelude.{ℕ, ◌+◌, ◌*◌, ◌≡◌, false, cond, List, ltb, eqb, Float, length, get_or}
+use Rattle.std.specs.Prelude.{ℕ, ◌+◌, ◌*◌, ◌≡◌, ◌≤◌, false, cond, List, ltb, eqb, Float, length, get_or}
 use Rattle.std.proofs.Math.Option.{Option, none, some}
 use Rattle.slices.specs.Lists.{tabulate}
-use Rattle.rbitcoin_mempool.specs.declared.answer.Rate.{Rate}
-use Rattle.rbitcoin_mempool.specs.declared.answer.Rate.TheVariants.{There, Missing}
+use Rattle.std.specs.Prelude.{Some, None}
+use Rattle.std.specs.declared.option.Option as rust
 use Rattle.rbitcoin_mempool.specs.Rates.{rate_at}
 use Rattle.rbitcoin_mempool.specs.Windows.{Windows, windows, held_in, target_at, or_else, WellStored}
 use Rattle.rbitcoin_mempool.specs.Windows.{state_refusal as windows_refusal, size_refusal as windows_size_refusal}
@@ -41,8 +41,8 @@ abbrev pub lent : Rows → Hashes → List ℕ → List Float → List ℕ → L
 lent m z us bs ds = record { rows = m; hashes = z; hurdles = us; befores = bs; aheads = ds }
 
 -- the row at a place: a stored mark other than 1 is a missing rate, whose number is not read
-abbrev pub rate_of : ℕ → ℕ → Rate
-rate_of mark number = cond (eqb mark 1) (There number) Missing
+abbrev pub rate_of : ℕ → ℕ → rust.Option ℕ
+rate_of mark number = cond (eqb mark 1) (Some number) None
 
 abbrev pub block_at : Rows → ℕ → HistoricalFeeBlock
 block_at m i = record { p10_sat_kvb = rate_of (get_or m.marks i 0) (get_or m.rates i 0); txstat_bytes = get_or m.sizes i 0 }
@@ -53,6 +53,13 @@ row_at m i = entry (get_or m.heights i 0) (block_at m i)
 -- the held rows, oldest first
 unfoldable pub held_rows : Rows → FeeHistory → List (Entry HistoricalFeeBlock)
 held_rows m s = tabulate (row_at m) s.start s.count
+
+-- each of the rows' lists reaches the end of the held rows
+pub record Reach (s : FeeHistory) (m : Rows) : Type 0 where
+  pub heights : s.start + s.count ≤ length m.heights
+  pub marks : s.start + s.count ≤ length m.marks
+  pub rates : s.start + s.count ≤ length m.rates
+  pub sizes : s.start + s.count ≤ length m.sizes
 
 -- the hash at a place: 32 bytes
 abbrev pub hash_at : Hashes → ℕ → Entry (List ℕ)

@@ -11,5 +11,6 @@ pub mod Rooms
 pub mod Openings
 pub mod Inserts
 pub mod Rates
+pub mod Memory
 pub mod Sums
 pub mod Runs

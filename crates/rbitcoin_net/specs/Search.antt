@@ -5,8 +5,11 @@ use Rattle.rbitcoin_net.specs.Map.{Ascends, get}
 use Rattle.rbitcoin_net.specs.Lent.{Rows, block_at, held_rows, rows_refusal_of}
 use Rattle.rbitcoin_net.specs.declared.fee_history.HistoricalFeeBlock.{HistoricalFeeBlock}
 use Rattle.rbitcoin_net.specs.declared.fee_history.FeeHistory.{FeeHistory}
-use Rattle.rbitcoin_net.specs.declared.fee_history.BlockAnswer.{BlockAnswer}
-use Rattle.rbitcoin_net.specs.declared.fee_history.BlockAnswer.TheVariants.{Held, Nothing, Refused}
+use Rattle.std.specs.Prelude.{Some, None, Ok, Err}
+use Rattle.std.specs.declared.option.Option as rust
+use Rattle.std.specs.declared.result.Result.{Result}
+use Rattle.rbitcoin_mempool.specs.declared.answer.Refusal.{Refusal}
+use Rattle.rbitcoin_mempool.specs.Refusal.{number}
 
 -- binary search from lo to hi in k turns; where heights ascend, the first place whose height is at least h
 unfoldable pub bisect : ℕ → List ℕ → ℕ → ℕ → ℕ → ℕ
@@ -31,10 +34,13 @@ pub data Looked : Type 0 where
   nothing : Looked
   refused : ℕ → Looked
 
-abbrev pub looked : BlockAnswer → Looked
-looked (Held b) = block b
-looked Nothing = nothing
-looked (Refused k) = refused k
+abbrev pub looked_up : rust.Option HistoricalFeeBlock → Looked
+looked_up (Some b) = block b
+looked_up None = nothing
+
+abbrev pub looked : Result (rust.Option HistoricalFeeBlock) Refusal → Looked
+looked (Ok b) = looked_up b
+looked (Err k) = refused (number k)
 
 abbrev pub looked_of : Option HistoricalFeeBlock → Looked
 looked_of (some b) = block b

@@ -1,13 +1,14 @@
 -- `quote` meets its contract, from the contracts of the loop and of the lookup and demand 3 about their definitions. Assumes nothing.
-use native.Mathlib.Omega.{arith}
-use mathlib.Core.Path.{◌≡◌, refl, sym, ap, ◌∙◌, subst, subst₂}
+use mathlib.Core.Path.{◌≡◌, sym, subst, subst₂}
 use mathlib.Core.Option.{Option, none, some}
 use mathlib.Core.List.{List}
 use Prim.Native.Nat.{ℕ, ◌^◌, ◌<◌}
 use lib.ListN.{length, get_or}
-use Rattle.rbitcoin_mempool.specs.Answer.{Answer, refusal}
-use Rattle.rbitcoin_mempool.specs.Rates.{given, refused_with}
-use Rattle.rbitcoin_mempool.specs.Hold.{Args, args_of, loop_refusal, loop_numbers, loop_marks}
+use Rattle.std.proofs.Common.{rules}
+use Rattle.rbitcoin_mempool.specs.Answer.{Answer, refusal, answer}
+use Rattle.rbitcoin_mempool.specs.Refusal.{number}
+use Rattle.rbitcoin_mempool.specs.Lists.{args_in}
+use Rattle.rbitcoin_mempool.specs.Hold.{Args, loop_refusal, loop_numbers, loop_marks}
 use Rattle.rbitcoin_mempool.specs.Target.{fee_at_target_sat_kvb}
 use Rattle.rbitcoin_mempool.specs.Demand3.{Demand3}
 use Rattle.rbitcoin_mempool.proofs.Demand3.{demand3}
@@ -28,12 +29,16 @@ ran a out out_marks numbers marks t x o e f l fits =
       demand3 = subst₂ (λ (ns ms : List ℕ). Demand3 a (length out) (length out_marks) ns ms) (sym l.0) (sym l.1) (demand3 a out out_marks fits);
     }
 
-pub returns-in-Done : goal.returns-in-Done
-returns-in-Done c =
-    ran (args_of c.args.depths.now c.args.projected.now c.args.projected_marks.now c.args.frontier.now c.args.frontier_marks.now c.args.history.now c.args.history_marks.now (given c.args.confirm) c.args.alpha) c.args.out.now c.args.out_marks.now
-    c.published_depth_rates-outcome.new.out c.published_depth_rates-outcome.new.out_marks c.args.target _ none (sym (ap refused_with c.in-Done.is) ∙ c.published_depth_rates-outcome.ensures.result_value) c.fee_at_target_sat_kvb.ensures (c.published_depth_rates-outcome.ensures.out_after, c.published_depth_rates-outcome.ensures.out_marks_after) (λ i h. omega (arith, c.type_inv.depths i))
+pub returns-clause-quoted : goal.returns-clause-quoted
+returns-clause-quoted c =
+    let p = c.in_ok-published_depth_rates.ensures in
+    ran (args_in c.args.lists.now) _ _ _ _ c.args.target _ none p.result_value
+    (rw (c.as_marked.ensures.numbers, c.as_marked.ensures.marks) at c.fee_at_target_sat_kvb.ensures)
+    (p.numbers_after, p.marks_after) c.depths_fit.ensures
 
-pub returns-in-Refused : goal.returns-in-Refused
-returns-in-Refused c =
-    ran (args_of c.args.depths.now c.args.projected.now c.args.projected_marks.now c.args.frontier.now c.args.frontier_marks.now c.args.history.now c.args.history_marks.now (given c.args.confirm) c.args.alpha) c.args.out.now c.args.out_marks.now
-    c.published_depth_rates-outcome.new.out c.published_depth_rates-outcome.new.out_marks c.args.target (refusal c.in-Refused.k) (some c.in-Refused.k) (sym (ap refused_with c.in-Refused.is) ∙ c.published_depth_rates-outcome.ensures.result_value) refl (c.published_depth_rates-outcome.ensures.out_after, c.published_depth_rates-outcome.ensures.out_marks_after) (λ i h. omega (arith, c.type_inv.depths i))
+pub returns-in_err-published_depth_rates-clause-quoted : goal.returns-in_err-published_depth_rates-clause-quoted
+returns-in_err-published_depth_rates-clause-quoted c =
+    let p = c.in_err-published_depth_rates.ensures in
+    let k = number c.in_err-published_depth_rates.field-0.0 in
+    let e : answer c.from_residual.result ≡ refusal k = search rules in
+    ran (args_in c.args.lists.now) _ _ _ _ c.args.target _ (some k) p.result_value e (p.numbers_after, p.marks_after) c.depths_fit.ensures

@@ -1,10 +1,13 @@
 // Log-rate interpolation between the two order statistics around a confidence.
-ghost use Rattle.std.specs.Prelude.{◌≡◌, slice_index};
-ghost use Rattle.rbitcoin_mempool.specs.Answer.{answer};
-ghost use Rattle.rbitcoin_mempool.specs.Quantile.{historical_confidence_far, rank_of, lower_place, upper_place, blend_of, between_neighbors, quantile_of, in_unit, log_quantile, log_quantile_leaves};
+ghost use Rattle.std.specs.Prelude.{◌≡◌};
+ghost use Rattle.rbitcoin_mempool.specs.Answer.{found};
+ghost use Rattle.rbitcoin_mempool.specs.Quantile.{historical_confidence_far, in_unit};
+ghost use Rattle.rbitcoin_mempool.specs.Quantile.{rank_of, lower_place, upper_place, blend_of};
+ghost use Rattle.rbitcoin_mempool.specs.Quantile.{between_neighbors, quantile_of};
+ghost use Rattle.rbitcoin_mempool.specs.Quantile.{log_quantile, log_quantile_leaves};
 
 use super::HISTORICAL_CONFIDENCE_FAR;
-use crate::answer::RateAnswer;
+use crate::answer::Refusal;
 
 // The confidence for targets past one block.
 pub fn historical_confidence_far() -> f64
@@ -23,13 +26,13 @@ fn rank_of(confidence: f64, n: usize) -> f64
 fn lower_place(rank: f64) -> usize
     ensures { result ≡ lower_place rank }
 {
-    num::word::saturating_sub(num::float::to_u64(num::float::floor(rank)), 1) as usize
+    num::float::to_u64(num::float::floor(rank)).saturating_sub(1) as usize
 }
 
 fn upper_place(rank: f64) -> usize
     ensures { result ≡ upper_place rank }
 {
-    num::word::saturating_sub(num::float::to_u64(num::float::ceil(rank)), 1) as usize
+    num::float::to_u64(num::float::ceil(rank)).saturating_sub(1) as usize
 }
 
 fn blend(a: u64, b: u64, frac: f64) -> u64
@@ -58,10 +61,8 @@ pub(crate) fn quantile_of(xs: &[u64], confidence: f64) -> u64
     let lower = lower_place(rank);
     let upper = upper_place(rank);
     let a = slices::order::nth_smallest(xs, lower);
-    if lower <= upper {
-        if upper < slices::order::count_at_most(xs, a) {
-            return between_neighbors(a, a, rank);
-        }
+    if lower <= upper && upper < slices::order::count_at_most(xs, a) {
+        return between_neighbors(a, a, rank);
     }
     let b = slices::order::nth_smallest(xs, upper);
     between_neighbors(a, b, rank)
@@ -71,38 +72,24 @@ pub(crate) fn quantile_of(xs: &[u64], confidence: f64) -> u64
 pub(crate) fn in_unit(confidence: f64) -> bool
     ensures { result ≡ in_unit confidence }
 {
-    if 0.0 <= confidence {
-        confidence <= 1.0
-    } else {
-        false
-    }
-}
-
-fn element(xs: &[u64], k: usize) -> u64
-    ensures { result ≡ slice_index xs.now k }
-{
-    if k < xs.len() {
-        return xs[k];
-    }
-    0
+    (0.0..=1.0).contains(&confidence)
 }
 
 // The quantile; the list is left in ascending order. Refusal 6 of an empty list, then 7 of a confidence that is NaN or
 // outside 0 to 1; a refusal leaves the list as found.
-pub fn log_quantile(outcomes: &mut [u64], confidence: f64) -> RateAnswer
-    ensures result_value { answer result ≡ log_quantile outcomes.old confidence }
+pub fn log_quantile(outcomes: &mut [u64], confidence: f64) -> Result<u64, Refusal>
+    ensures result_value { found result ≡ log_quantile outcomes.old confidence }
     ensures outcomes_after { outcomes.new ≡ log_quantile_leaves outcomes.old confidence }
 {
-    let n = outcomes.len();
-    if n == 0 {
-        return RateAnswer::Refused(6);
+    if outcomes.is_empty() {
+        return Err(Refusal::Empty);
     }
     if !in_unit(confidence) {
-        return RateAnswer::Refused(7);
+        return Err(Refusal::Confidence);
     }
     slices::sort::sort(outcomes);
-    let rank = rank_of(confidence, n);
-    let a = element(outcomes, lower_place(rank));
-    let b = element(outcomes, upper_place(rank));
-    RateAnswer::Found(between_neighbors(a, b, rank))
+    let rank = rank_of(confidence, outcomes.len());
+    let a = outcomes.get(lower_place(rank)).copied().unwrap_or(0);
+    let b = outcomes.get(upper_place(rank)).copied().unwrap_or(0);
+    Ok(between_neighbors(a, b, rank))
 }

@@ -1,79 +1,85 @@
-// What calls on pair windows are refused with, 0 for nothing.
+// What calls on pair windows are refused with.
 ghost use Rattle.std.specs.Prelude.{◌≡◌};
-ghost use Rattle.rbitcoin_mempool.specs.Windows.{state_refusal, size_refusal, lent_refusal, push_refusal, rebuild_refusal};
+ghost use Rattle.rbitcoin_mempool.specs.Outcome.{refusal_of};
+ghost use Rattle.rbitcoin_mempool.specs.Windows.{state_refusal, size_refusal, lent_refusal};
+ghost use Rattle.rbitcoin_mempool.specs.Windows.{push_refusal, rebuild_refusal};
+ghost use Rattle.rbitcoin_mempool.specs.Scan.{scan_refusal};
 
 use super::history::AnalogHistory;
+use super::memory::WindowSizes;
+use crate::answer::Refusal;
 
-// A state that no call returns.
-pub(crate) fn state_refusal(s: AnalogHistory) -> u8
-    ensures { result ≡ state_refusal s }
-{
-    if s.tracked > 16 {
-        return 3;
+impl AnalogHistory {
+    // A state that no call returns.
+    #[tactic(auto, using(crate::proofs::Refusals::size_tests), unfolding(crate::specs::Windows::state_refusal))]
+    pub fn check(&self) -> Result<(), Refusal>
+        ensures { refusal_of result ≡ state_refusal self.now }
+    {
+        if self.tracked > 16 {
+            return Err(Refusal::TooManyTargets);
+        }
+        if self.capacity > 65536
+            || self.start > self.capacity
+            || self.count > self.capacity - self.start
+        {
+            return Err(Refusal::Short);
+        }
+        Ok(())
     }
-    if s.capacity > 65536 {
-        return 5;
-    }
-    if s.start > s.capacity {
-        return 5;
-    }
-    if s.count > s.capacity - s.start {
-        return 5;
-    }
-    0
-}
 
-// Memory of these sizes.
-fn size_refusal(s: AnalogHistory, h: usize, b: usize, a: usize) -> u8
-    requires { state_refusal s ≡ 0 }
-    ensures { result ≡ size_refusal s h b a }
-{
-    if h < s.capacity {
-        return 5;
+    // Memory of these sizes.
+    #[tactic(auto, using(crate::proofs::Refusals::size_tests), unfolding(crate::specs::Windows::size_refusal))]
+    pub fn check_sizes(&self, lent: WindowSizes) -> Result<(), Refusal>
+        requires { state_refusal self.now ≡ 0 }
+        ensures { refusal_of result ≡ size_refusal self.now lent.hurdles lent.befores lent.aheads }
+    {
+        let places = self.tracked * self.capacity;
+        if lent.hurdles < self.capacity || lent.befores < places || lent.aheads < places {
+            return Err(Refusal::Short);
+        }
+        Ok(())
     }
-    let places = s.tracked * s.capacity;
-    if b < places {
-        return 5;
-    }
-    if a < places {
-        return 5;
-    }
-    0
-}
 
-// A call that lends memory.
-pub(crate) fn lent_refusal(s: AnalogHistory, h: usize, b: usize, a: usize) -> u8
-    ensures { result ≡ lent_refusal s h b a }
-{
-    let of_state = state_refusal(s);
-    if of_state != 0 {
-        return of_state;
+    // A call that lends memory.
+    #[tactic(auto, using(crate::proofs::Refusals::refusal_steps), unfolding(crate::specs::Windows::lent_refusal))]
+    pub(crate) fn check_lent(&self, lent: WindowSizes) -> Result<(), Refusal>
+        ensures { refusal_of result ≡ lent_refusal self.now lent.hurdles lent.befores lent.aheads }
+    {
+        self.check()?;
+        self.check_sizes(lent)
     }
-    size_refusal(s, h, b, a)
-}
 
-pub(crate) fn push_refusal(s: AnalogHistory, h: usize, b: usize, a: usize) -> u8
-    ensures { result ≡ push_refusal s h b a }
-{
-    let of_memory = lent_refusal(s, h, b, a);
-    if of_memory != 0 {
-        return of_memory;
+    #[tactic(auto, using(crate::proofs::Refusals::refusal_steps), unfolding(crate::specs::Windows::push_refusal))]
+    pub(crate) fn check_push(&self, lent: WindowSizes) -> Result<(), Refusal>
+        ensures { refusal_of result ≡ push_refusal self.now lent.hurdles lent.befores lent.aheads }
+    {
+        self.check_lent(lent)?;
+        if self.count == self.capacity {
+            return Err(Refusal::Full);
+        }
+        Ok(())
     }
-    if s.count == s.capacity {
-        return 4;
-    }
-    0
-}
 
-pub(crate) fn rebuild_refusal(n: usize, s: AnalogHistory, h: usize, b: usize, a: usize) -> u8
-    ensures { result ≡ rebuild_refusal n s h b a }
-{
-    let of_memory = lent_refusal(s, h, b, a);
-    if of_memory != 0 {
-        return of_memory;
+    #[tactic(auto, using(crate::proofs::Refusals::refusal_steps), unfolding(crate::specs::Windows::rebuild_refusal))]
+    pub(crate) fn check_rebuild(&self, n: usize, lent: WindowSizes) -> Result<(), Refusal>
+        ensures { refusal_of result ≡ rebuild_refusal n self.now lent.hurdles lent.befores lent.aheads }
+    {
+        self.check_lent(lent)?;
+        if self.capacity < n {
+            return Err(Refusal::Full);
+        }
+        Ok(())
     }
-    if s.capacity < n {
-        return 4;
+
+    // A scan that lends scratch of this size too.
+    #[tactic(auto, using(crate::proofs::Refusals::refusal_steps), unfolding(crate::specs::Scan::scan_refusal))]
+    pub(crate) fn check_scan(&self, lent: WindowSizes, scratch: usize) -> Result<(), Refusal>
+        ensures { refusal_of result ≡ scan_refusal self.now lent.hurdles lent.befores lent.aheads scratch }
+    {
+        self.check_lent(lent)?;
+        if scratch < self.capacity {
+            return Err(Refusal::Short);
+        }
+        Ok(())
     }
-    0
 }

@@ -1,105 +1,68 @@
 // A rate from the pairs of one target.
 ghost use Rattle.std.specs.Prelude.{◌≡◌, ◌<◌, ◌≤◌, length, nat_lt};
-ghost use Rattle.rbitcoin_mempool.specs.Pairs.{windows_in};
+ghost use Rattle.rbitcoin_mempool.specs.Memory.{windows_seen, ValidWith};
 ghost use Rattle.rbitcoin_mempool.specs.Nearest.{neighbors};
+ghost use Rattle.rbitcoin_mempool.specs.Pairs.{windows_in};
 ghost use Rattle.rbitcoin_mempool.specs.Quantile.{quantile_of};
-ghost use Rattle.rbitcoin_mempool.specs.Windows.{windows, Valid, held, target_at, stored_pairs, find_target};
-ghost use Rattle.rbitcoin_mempool.specs.Scan.{now_of, scan_refusal};
+ghost use Rattle.rbitcoin_mempool.specs.Scan.{now_of, target_found};
+ghost use Rattle.rbitcoin_mempool.specs.Windows.{held, target_at, stored_pairs, find_target};
 
 use super::history::AnalogHistory;
-use super::median::{analog_lookback, ln_rate, median_before};
+use super::median::{ln_rate, median_before};
+use super::memory::WindowLists;
 use super::nearest::neighbors_quantile;
-use super::put::analog_ahead;
-use super::refusals::lent_refusal;
+use super::pairs::Pairs;
+use super::window::{Window, analog_ahead};
 
-// What a scan is refused with, 0 for nothing.
-pub(crate) fn scan_refusal(s: AnalogHistory, h: usize, b: usize, a: usize, z: usize) -> u8
-    ensures { result ≡ scan_refusal s h b a z }
-{
-    let of_memory = lent_refusal(s, h, b, a);
-    if of_memory != 0 {
-        return of_memory;
+impl AnalogHistory {
+    // The number of the first target of n blocks.
+    pub(crate) fn find_target(&self, n: u32) -> Option<usize>
+        requires { self.now.tracked ≤ 16 }
+        ensures { result ≡ target_found self.now n }
+    {
+        let ahead = analog_ahead(n);
+        self.targets[..self.tracked]
+            .iter()
+            .position(|target| analog_ahead(*target) == ahead)
     }
-    if z < s.capacity {
-        return 5;
-    }
-    0
-}
 
-// The number of the first target of n blocks; the number of targets where there is none.
-pub(crate) fn find_target(s: AnalogHistory, n: u32) -> usize
-    requires { s.tracked ≤ 16 }
-    ensures { result ≡ find_target s n }
-{
-    let targets = s.targets;
-    let ahead = analog_ahead(n);
-    let mut d = 0;
-    while d < s.tracked {
-        if analog_ahead(targets[d]) == ahead {
-            return d;
-        }
-        d += 1;
+    // Whether a target of n blocks is tracked. All are looked at: the branch at which a search ends could not be
+    // foretold.
+    pub(crate) fn tracks(&self, n: u32) -> bool
+        requires { self.now.tracked ≤ 16 }
+        ensures { result ≡ nat_lt (find_target self.now n) self.now.tracked }
+    {
+        let ahead = analog_ahead(n);
+        self.targets[..self.tracked].iter().fold(
+            false,
+            |found, target| found | (analog_ahead(*target) == ahead),
+        )
     }
-    d
-}
 
-// Whether a target of n blocks is tracked. All are looked at: the branch at which a search ends could not be foretold.
-pub(crate) fn tracks(s: AnalogHistory, n: u32) -> bool
-    requires { s.tracked ≤ 16 }
-    ensures { result ≡ nat_lt (find_target s n) s.tracked }
-{
-    let targets = s.targets;
-    let ahead = analog_ahead(n);
-    let mut found = false;
-    let mut d = 0;
-    while d < s.tracked {
-        if analog_ahead(targets[d]) == ahead {
-            found = true;
-        }
-        d += 1;
+    // The rate of target number d, which has pairs enough.
+    pub(crate) fn scan(
+        &self,
+        d: usize,
+        confidence: f64,
+        lists: WindowLists,
+        scratch: &mut [u64],
+    ) -> u64
+        requires d_lt_tracked { d < self.now.tracked }
+        requires bound { 200 ≤ windows_in self.now.count (target_at self.now d) }
+        requires capacity_in_bounds { self.now.capacity ≤ length scratch.old }
+        requires valid { ValidWith self.now lists }
+        ensures { let s = self.now in
+            let now = now_of (held s lists.entry.hurdles.now) (target_at s d) in
+            result ≡ quantile_of (neighbors now (stored_pairs (windows_seen s lists.entry) d)) confidence }
+    {
+        let window = Window::of(self.targets[d]);
+        let level = median_before(lists.hurdles, self.start + self.count, window.lookback);
+        let first = d * self.capacity + (self.start + window.lookback);
+        let end = first + window.count_in(self.count);
+        let pairs = Pairs {
+            logs: &lists.befores[first..end],
+            outcomes: &lists.aheads[first..end],
+        };
+        neighbors_quantile(pairs, ln_rate(level), confidence, scratch)
     }
-    found
-}
-
-// How many pairs a count of hurdles has for a target.
-pub(crate) fn pairs_in(count: usize, target: u32) -> usize
-    requires { count ≤ 65536 }
-    ensures { result ≡ windows_in count target }
-{
-    let need = analog_lookback(target) + analog_ahead(target);
-    if count < need {
-        return 0;
-    }
-    count + 1 - need
-}
-
-// The rate of target number d, which has pairs enough.
-pub(crate) fn scan(
-    s: AnalogHistory,
-    d: usize,
-    confidence: f64,
-    hurdles: &[u64],
-    befores: &[f64],
-    aheads: &[u64],
-    scratch: &mut [u64],
-) -> u64
-    requires d_lt_tracked { d < s.tracked }
-    requires bound { 200 ≤ windows_in s.count (target_at s d) }
-    requires capacity_in_bounds { s.capacity ≤ length scratch.old }
-    requires valid { Valid s (length hurdles.now) (length befores.now) (length aheads.now) }
-    ensures { result ≡ quantile_of (neighbors (now_of (held s hurdles.now) (target_at s d)) (stored_pairs (windows s hurdles.now befores.now aheads.now) d)) confidence }
-{
-    let targets = s.targets;
-    let target = targets[d];
-    let lookback = analog_lookback(target);
-    let level = ln_rate(median_before(hurdles, s.start + s.count, lookback));
-    let first = d * s.capacity + (s.start + lookback);
-    let end = first + pairs_in(s.count, target);
-    neighbors_quantile(
-        &befores[first..end],
-        &aheads[first..end],
-        level,
-        confidence,
-        scratch,
-    )
 }

@@ -2,8 +2,11 @@
 ghost use Rattle.std.specs.Prelude.{◌≡◌, ◌^◌, ◌<◌, if◌then◌else◌};
 ghost use Rattle.num.specs.Float.{of_u64};
 ghost use Rattle.rbitcoin_mempool.specs.Rates.{given};
-ghost use Rattle.rbitcoin_mempool.specs.Depths.{blend_weight, flow_for_depth, blended, warmed, or, greater, blend_sat_kvb, clamped_share, blend_by, warmup_blend, cold_rate, warm_rate, depth_rate_sat_kvb, floored, published_depth_rate};
-ghost use Rattle.rbitcoin_mempool.specs.Exact.{InUnit, as_fracs, Within, Both, BoundedRate, exact_blend, exact_by, exact_published};
+ghost use Rattle.rbitcoin_mempool.specs.Depths.{blend_weight, flow_for_depth, blended, warmed, greater, blend_sat_kvb};
+ghost use Rattle.rbitcoin_mempool.specs.Depths.{clamped_share, blend_by, warmup_blend, cold_rate, warm_rate};
+ghost use Rattle.rbitcoin_mempool.specs.Depths.{depth_rate_sat_kvb, floored, published_depth_rate};
+ghost use Rattle.rbitcoin_mempool.specs.Exact.{InUnit, as_fracs, Within, Both, BoundedRate};
+ghost use Rattle.rbitcoin_mempool.specs.Exact.{exact_blend, exact_by, exact_published};
 
 use crate::answer::Rate;
 
@@ -13,8 +16,8 @@ pub const BLEND_N0: f64 = 6.0;
 // A pool thinner than N blocks still quotes flow where the weight is at least this.
 pub const NEAR_BLEND_FLOOR: f64 = 0.5;
 
-// A number of blocks as a float, by the bits of 2^52 + n. The conversion that the compiler makes of a cast would wait for
-// what the register had before.
+// A number of blocks as a float, by the bits of 2^52 + n. The conversion that the compiler makes of a cast would wait
+// for what the register had before.
 fn as_float(n: u64) -> f64
     requires { n < 2 ^ 52 }
     ensures { result ≡ of_u64 n }
@@ -27,38 +30,20 @@ pub fn blend_weight(n_blocks: u32) -> f64
     ensures value { result ≡ blend_weight n_blocks }
     ensures in_unit { InUnit result }
 {
-    let n = as_float(num::word::greatest(n_blocks as u64, 1));
+    let n = as_float(n_blocks.max(1) as u64);
     num::exp::exp(-(n - 1.0) / BLEND_N0)
-}
-
-// The same rate, put together anew. A copy of the whole value takes its unused bytes along, by loads
-// that wait for the stores before them.
-fn same(rate: Rate) -> Rate
-    ensures { given result ≡ given rate }
-{
-    match rate {
-        Rate::There(x) => Rate::There(x),
-        Rate::Missing => Rate::Missing,
-    }
 }
 
 // Projected inflow with the N-block frontier. Where the pool is thinner than N blocks, a near depth
 // keeps the projected rate and a far one has none.
+#[tactic(auto, unfolding(crate::specs::Depths::flow_for_depth))]
 pub fn flow_for_depth(projected: Rate, frontier: Rate, n_blocks: u32) -> Rate
     ensures { given result ≡ flow_for_depth (given projected) (given frontier) n_blocks }
 {
     match frontier {
-        Rate::There(f) => match projected {
-            Rate::There(p) => Rate::There(num::word::greatest(p, f)),
-            Rate::Missing => Rate::There(f),
-        },
-        Rate::Missing => {
-            if blend_weight(n_blocks) >= NEAR_BLEND_FLOOR {
-                same(projected)
-            } else {
-                Rate::Missing
-            }
-        }
+        Some(f) => Some(projected.map_or(f, |p| p.max(f))),
+        None if blend_weight(n_blocks) >= NEAR_BLEND_FLOOR => projected,
+        None => None,
     }
 }
 
@@ -76,106 +61,88 @@ fn warmed(v: f64, b: u64, a: u64) -> u64
     num::float::round_to_u64((1.0 - v) * num::float::from_u64(b) + v * num::float::from_u64(a))
 }
 
-fn first_of(a: Rate, b: Rate) -> Rate
-    ensures { given result ≡ or (given a) (given b) }
-{
-    match a {
-        Rate::There(x) => Rate::There(x),
-        Rate::Missing => same(b),
-    }
-}
-
+// The greater of two rates, or the one that is there: a missing rate is less than any other.
 fn greater_of(a: Rate, b: Rate) -> Rate
     ensures { given result ≡ greater (given a) (given b) }
 {
-    match a {
-        Rate::There(x) => match b {
-            Rate::There(y) => Rate::There(num::word::greatest(x, y)),
-            Rate::Missing => Rate::There(x),
-        },
-        Rate::Missing => same(b),
-    }
+    a.max(b)
 }
 
 // w·flow + (1-w)·hist by the weight of N; a missing side drops out. Less than 1 from the exact blend
 // of rates up to 2^50.
 pub fn blend_sat_kvb(flow: Rate, hist: Rate, n_blocks: u32) -> Rate
     ensures result_value { given result ≡ blend_sat_kvb (given flow) (given hist) n_blocks }
-    ensures both { BoundedRate (given flow) → BoundedRate (given hist) → Both (Within 1) (given result) (exact_blend (given flow) (given hist) n_blocks) }
+    ensures both { BoundedRate (given flow) → BoundedRate (given hist)
+        → Both (Within 1) (given result) (exact_blend (given flow) (given hist) n_blocks) }
 {
     blend_rate(flow, hist, n_blocks)
 }
 
+#[tactic(auto, unfolding(crate::specs::Depths::blend_sat_kvb))]
 fn blend_rate(flow: Rate, hist: Rate, n_blocks: u32) -> Rate
     ensures { given result ≡ blend_sat_kvb (given flow) (given hist) n_blocks }
 {
-    match flow {
-        Rate::There(f) => match hist {
-            Rate::There(h) => Rate::There(blended(blend_weight(n_blocks), f, h)),
-            Rate::Missing => Rate::There(f),
-        },
-        Rate::Missing => same(hist),
+    match (flow, hist) {
+        (Some(f), Some(h)) => Some(blended(blend_weight(n_blocks), f, h)),
+        (flow, hist) => flow.or(hist),
     }
 }
 
 // The warm-up share clamped to 0..1, and 0 where it is not finite.
+#[tactic(auto, unfolding(crate::specs::Depths::clamped_share))]
 fn clamped_share(alpha: f64) -> f64
     ensures { result ≡ clamped_share alpha }
 {
     if num::float::is_finite(alpha) {
-        return num::float::clamp(alpha, 0.0, 1.0);
+        num::float::clamp(alpha, 0.0, 1.0)
+    } else {
+        0.0
     }
-    0.0
 }
 
 // (1-α)·cold + α·warm. A missing warm side leaves the cold quote; flow with no history answers only
 // at α = 1. Less than 1 from the exact blend of rates up to 2^50.
 pub fn warmup_blend(alpha: f64, cold: Rate, warm: Rate) -> Rate
     ensures result_value { given result ≡ warmup_blend alpha (given cold) (given warm) }
-    ensures both { BoundedRate (given cold) → BoundedRate (given warm) → Both (Within 1) (given result) (exact_by (clamped_share alpha) (given cold) (as_fracs (given warm))) }
+    ensures both { BoundedRate (given cold) → BoundedRate (given warm)
+        → Both (Within 1) (given result) (exact_by (clamped_share alpha) (given cold) (as_fracs (given warm))) }
 {
     blend_by(clamped_share(alpha), cold, warm)
 }
 
+#[tactic(auto, unfolding(crate::specs::Depths::blend_by))]
 fn blend_by(share: f64, cold: Rate, warm: Rate) -> Rate
     ensures { given result ≡ blend_by share (given cold) (given warm) }
 {
-    match warm {
-        Rate::There(w) => match cold {
-            Rate::There(c) => Rate::There(warmed(share, c, w)),
-            Rate::Missing => {
-                if share >= 1.0 {
-                    Rate::There(w)
-                } else {
-                    Rate::Missing
-                }
-            }
-        },
-        Rate::Missing => same(cold),
+    match (cold, warm) {
+        (Some(c), Some(w)) => Some(warmed(share, c, w)),
+        (None, Some(w)) if share >= 1.0 => Some(w),
+        (None, Some(_)) => None,
+        (cold, None) => cold,
     }
 }
 
 // History while flow is cold, which the frontier may only raise.
+#[tactic(auto, unfolding(crate::specs::Depths::cold_rate))]
 fn cold_rate(frontier: Rate, hist: Rate) -> Rate
     ensures { given result ≡ cold_rate (given frontier) (given hist) }
 {
-    match hist {
-        Rate::There(h) => greater_of(Rate::There(h), frontier),
-        Rate::Missing => Rate::Missing,
-    }
+    hist.map(|h| frontier.map_or(h, |f| h.max(f)))
 }
 
 // Once flow is warm: flow up to one block, or else history, and farther out their blend.
+#[tactic(auto, unfolding(crate::specs::Depths::warm_rate))]
 fn warm_rate(n_blocks: u32, flow: Rate, hist: Rate) -> Rate
     ensures { given result ≡ warm_rate n_blocks (given flow) (given hist) }
 {
     if n_blocks <= 1 {
-        return first_of(flow, hist);
+        return flow.or(hist);
     }
     blend_sat_kvb(flow, hist, n_blocks)
 }
 
 // One target's rate before the monotone pass.
+#[tactic(auto, unfolding(crate::specs::Depths::depth_rate_sat_kvb))]
 pub fn depth_rate_sat_kvb(
     n_blocks: u32,
     flow_warm: bool,
@@ -195,13 +162,7 @@ pub fn depth_rate_sat_kvb(
 fn is_floored(n_blocks: u32, alpha: f64) -> bool
     ensures { result ≡ floored n_blocks alpha }
 {
-    if n_blocks <= 1 {
-        if num::float::is_finite(alpha) {
-            return alpha > 0.0;
-        }
-        return false;
-    }
-    false
+    n_blocks <= 1 && num::float::is_finite(alpha) && alpha > 0.0
 }
 
 // The warm quote, with the confirm floor up to one block.
@@ -211,7 +172,7 @@ fn floored_rate(n_blocks: u32, alpha: f64, warm: Rate, confirm: Rate) -> Rate
     if is_floored(n_blocks, alpha) {
         return greater_of(warm, confirm);
     }
-    same(warm)
+    warm
 }
 
 // One published depth: cold at α = 0, warm at α = 1. Less than 2 from the exact composition of rates
@@ -224,8 +185,12 @@ pub fn published_depth_rate(
     hist: Rate,
     confirm_floor: Rate,
 ) -> Rate
-    ensures result_value { given result ≡ published_depth_rate n_blocks alpha (given flow) (given frontier) (given hist) (given confirm_floor) }
-    ensures both { BoundedRate (given flow) → BoundedRate (given frontier) → BoundedRate (given hist) → BoundedRate (given confirm_floor) → Both (Within 2) (given result) (exact_published n_blocks alpha (given flow) (given frontier) (given hist) (given confirm_floor)) }
+    ensures result_value { given result
+        ≡ published_depth_rate n_blocks alpha (given flow) (given frontier) (given hist) (given confirm_floor) }
+    ensures both { BoundedRate (given flow) → BoundedRate (given frontier)
+        → BoundedRate (given hist) → BoundedRate (given confirm_floor)
+        → Both (Within 2) (given result)
+        (exact_published n_blocks alpha (given flow) (given frontier) (given hist) (given confirm_floor)) }
 {
     let cold = depth_rate_sat_kvb(n_blocks, false, flow, frontier, hist);
     let warm = depth_rate_sat_kvb(n_blocks, true, flow, frontier, hist);

@@ -82,7 +82,7 @@ pub fn first_bucket_above(rate_sat_per_kvb: u64) -> usize
     if i < 401 {
         return i;
     }
-    let open_floor = num::word::saturating_add(LAST_EDGE, 1);
+    let open_floor = LAST_EDGE.saturating_add(1);
     if rate_sat_per_kvb < open_floor {
         return 401;
     }

@@ -3,18 +3,18 @@ ghost use Rattle.std.specs.Prelude.{◌≡◌};
 ghost use Rattle.rbitcoin_mempool.specs.Answer.{answer};
 ghost use Rattle.rbitcoin_mempool.specs.Percentile.{percentile_sat};
 
-use crate::answer::RateAnswer;
+use crate::answer::{Rate, Refusal};
 
 // The element at the share `pct` of the sorted list, pct in 0 to 100 and 100 above that; nothing of
 // an empty list. The list is left as found.
-pub fn percentile_sat(v: &[u64], pct: u8) -> RateAnswer
+pub fn percentile_sat(v: &[u64], pct: u8) -> Result<Rate, Refusal>
     ensures { answer result ≡ percentile_sat v.now pct }
 {
     let n = v.len();
     if n == 0 {
-        return RateAnswer::Nothing;
+        return Ok(None);
     }
-    let share = num::word::least(pct as u64, 100);
+    let share = (pct as u64).min(100);
     let i = num::word::saturating_mul((n - 1) as u64, share) / 100;
-    RateAnswer::Found(slices::order::nth_smallest(v, i as usize))
+    Ok(Some(slices::order::nth_smallest(v, i as usize)))
 }

@@ -1,273 +1,111 @@
 // The loop over depths: the published rate of each, then the hold pass over all.
-ghost use Rattle.std.specs.Prelude.{◌≡◌, ◌<◌, ◌&&◌, length, ◌==◌};
+ghost use Rattle.std.specs.Prelude.{◌≡◌, ◌<◌, length};
 ghost use Rattle.std.proofs.Math.Option.{none};
 ghost use Rattle.slices.specs.Lists.{tabulate};
-ghost use Rattle.rbitcoin_mempool.specs.Rates.{given, refused_with, marks_valid, number_of, mark_of, numbers_of, marks_of};
-ghost use Rattle.rbitcoin_mempool.specs.Hold.{args_of, published_at, depth_rates, same_lengths, loop_refusal, loop_numbers, loop_marks};
+ghost use Rattle.rbitcoin_mempool.specs.Rates.{given, refused_with, numbers_of, marks_of};
+ghost use Rattle.rbitcoin_mempool.specs.Hold.{published_at, same_lengths, input_marks};
+ghost use Rattle.rbitcoin_mempool.specs.Hold.{loop_refusal, loop_numbers, loop_marks};
+ghost use Rattle.rbitcoin_mempool.specs.Lists.{SameLists, Aligned, args_in};
 
 use super::depths::{flow_for_depth, published_depth_rate};
-use super::hold::{hold_all, marks_valid, never_descends, rate_at};
-use crate::answer::{Outcome, Rate};
+use super::hold::{hold_all, never_descends};
+use super::marked::{Marked, MarkedMut};
+use crate::answer::{Rate, Refusal};
 
-// Whether both lists of a pair have n elements.
-fn both_have(numbers: &[u64], marks: &[u8], n: usize) -> bool
-    ensures { result ≡ (length numbers.now == n) && (length marks.now == n) }
-{
-    if numbers.len() == n {
-        return marks.len() == n;
-    }
-    false
+// What the loop over depths reads: for each depth its projected, frontier and history rate; the confirm rate; and the
+// warm-up share, which may be any f64.
+#[derive(Clone, Copy)]
+pub struct DepthLists<'a> {
+    pub depths: &'a [u32],
+    pub projected: Marked<'a>,
+    pub frontier: Marked<'a>,
+    pub history: Marked<'a>,
+    pub confirm: Rate,
+    pub alpha: f64,
 }
 
-fn all_valid(a: &[u8], b: &[u8], c: &[u8]) -> bool
-    ensures { result ≡ marks_valid a.now && (marks_valid b.now && marks_valid c.now) }
-{
-    if marks_valid(a) {
-        if marks_valid(b) {
-            return marks_valid(c);
+impl DepthLists<'_> {
+    // The published rate of the depth at i.
+    fn published_at(&self, i: usize) -> Rate
+        requires i_in_bounds { i < length self.now.depths.now }
+        requires aligned { Aligned self.now }
+        ensures { given result ≡ published_at (args_in self.now) i }
+    {
+        let n = self.depths[i];
+        let frontier = self.frontier.rate_at(i);
+        let flow = flow_for_depth(self.projected.rate_at(i), frontier, n);
+        let history = self.history.rate_at(i);
+        published_depth_rate(n, self.alpha, flow, frontier, history, self.confirm)
+    }
+
+    // Whether the lists are of one length, the output's too.
+    #[tactic(auto, unfolding(crate::specs::Hold::same_lengths))]
+    fn have_one_length(&self, out: &MarkedMut) -> bool
+        ensures { result ≡ same_lengths (args_in self.now) (length out.now.numbers.now) (length out.now.marks.now) }
+    {
+        let n = self.depths.len();
+        self.projected.have(n)
+            && self.frontier.have(n)
+            && self.history.have(n)
+            && out.numbers.len() == n
+            && out.marks.len() == n
+    }
+
+    #[tactic(auto, unfolding(crate::specs::Hold::input_marks))]
+    fn have_valid_marks(&self) -> bool
+        ensures { result ≡ input_marks (args_in self.now) }
+    {
+        self.projected.are_valid() && self.frontier.are_valid() && self.history.are_valid()
+    }
+
+    // Refuses lists that the loop cannot take, before anything is written.
+    #[tactic(auto, unfolding(crate::specs::Hold::loop_refusal))]
+    fn accept(&self, out: &MarkedMut) -> Result<(), Refusal>
+        ensures { let numbers = length out.now.numbers.now in
+            refused_with result ≡ loop_refusal (args_in self.now) numbers (length out.now.marks.now) }
+    {
+        if !self.have_one_length(out) {
+            return Err(Refusal::Unpaired);
         }
+        if !self.have_valid_marks() {
+            return Err(Refusal::Mark);
+        }
+        if !never_descends(self.depths) {
+            return Err(Refusal::Descending);
+        }
+        Ok(())
     }
-    false
-}
-
-fn number_of(rate: Rate) -> u64
-    ensures { result ≡ number_of (given rate) }
-{
-    match rate {
-        Rate::There(number) => number,
-        Rate::Missing => 0,
-    }
-}
-
-fn mark_of(rate: Rate) -> u8
-    ensures { result ≡ mark_of (given rate) }
-{
-    match rate {
-        Rate::There(_) => 1,
-        Rate::Missing => 0,
-    }
-}
-
-// The published rate of the depth at i.
-fn publish_at(
-    depths: &[u32],
-    projected: &[u64],
-    projected_marks: &[u8],
-    frontier: &[u64],
-    frontier_marks: &[u8],
-    history: &[u64],
-    history_marks: &[u8],
-    confirm: Rate,
-    alpha: f64,
-    i: usize,
-) -> Rate
-    requires i_in_bounds { i < length depths.now }
-    requires projected_len { (length projected.now ≡ length depths.now) × (length projected_marks.now ≡ length depths.now) }
-    requires frontier_len { (length frontier.now ≡ length depths.now) × (length frontier_marks.now ≡ length depths.now) }
-    requires history_len { (length history.now ≡ length depths.now) × (length history_marks.now ≡ length depths.now) }
-    ensures { given result ≡ published_at (args_of depths.now projected.now projected_marks.now frontier.now frontier_marks.now history.now history_marks.now (given confirm) alpha) i }
-{
-    let n = depths[i];
-    let f = rate_at(frontier, frontier_marks, i);
-    let flow = flow_for_depth(rate_at(projected, projected_marks, i), f, n);
-    let h = rate_at(history, history_marks, i);
-    published_depth_rate(n, alpha, flow, f, h, confirm)
 }
 
 // The published rate of each depth, 0 under a missing mark.
-fn publish_all(
-    depths: &[u32],
-    projected: &[u64],
-    projected_marks: &[u8],
-    frontier: &[u64],
-    frontier_marks: &[u8],
-    history: &[u64],
-    history_marks: &[u8],
-    confirm: Rate,
-    alpha: f64,
-    out: &mut [u64],
-    out_marks: &mut [u8],
-)
-    requires projected_len { (length projected.now ≡ length depths.now) × (length projected_marks.now ≡ length depths.now) }
-    requires frontier_len { (length frontier.now ≡ length depths.now) × (length frontier_marks.now ≡ length depths.now) }
-    requires history_len { (length history.now ≡ length depths.now) × (length history_marks.now ≡ length depths.now) }
-    requires out_len { (length out.old ≡ length depths.now) × (length out_marks.old ≡ length depths.now) }
-    ensures out_after { out.new ≡ numbers_of (tabulate (published_at (args_of depths.now projected.now projected_marks.now frontier.now frontier_marks.now history.now history_marks.now (given confirm) alpha)) 0 (length depths.now)) }
-    ensures out_marks_after { out_marks.new ≡ marks_of (tabulate (published_at (args_of depths.now projected.now projected_marks.now frontier.now frontier_marks.now history.now history_marks.now (given confirm) alpha)) 0 (length depths.now)) }
+fn publish_all(lists: &DepthLists, out: &mut MarkedMut)
+    requires aligned { Aligned lists.now }
+    requires numbers_len { length out.old.numbers.now ≡ length lists.now.depths.now }
+    requires marks_len { length out.old.marks.now ≡ length lists.now.depths.now }
+    ensures numbers_after { out.new.numbers.now
+        ≡ numbers_of (tabulate (published_at (args_in lists.now)) 0 (length lists.now.depths.now)) }
+    ensures marks_after { out.new.marks.now
+        ≡ marks_of (tabulate (published_at (args_in lists.now)) 0 (length lists.now.depths.now)) }
+    ensures same_lists { SameLists out.new out.old }
 {
-    let mut i = 0;
-    while i < depths.len() {
-        let rate = publish_at(
-            depths,
-            projected,
-            projected_marks,
-            frontier,
-            frontier_marks,
-            history,
-            history_marks,
-            confirm,
-            alpha,
-            i,
-        );
-        out[i] = number_of(rate);
-        out_marks[i] = mark_of(rate);
-        i += 1;
+    for i in 0..lists.depths.len() {
+        out.put(i, lists.published_at(i));
     }
 }
 
-// Whether the lists are of one length, the output's too.
-fn lengths_agree(
-    depths: &[u32],
-    projected: &[u64],
-    projected_marks: &[u8],
-    frontier: &[u64],
-    frontier_marks: &[u8],
-    history: &[u64],
-    history_marks: &[u8],
-    confirm: Rate,
-    alpha: f64,
-    out: usize,
-    out_marks: usize,
-) -> bool
-    ensures { result ≡ same_lengths (args_of depths.now projected.now projected_marks.now frontier.now frontier_marks.now history.now history_marks.now (given confirm) alpha) out out_marks }
-{
-    let n = depths.len();
-    if both_have(projected, projected_marks, n) {
-        if both_have(frontier, frontier_marks, n) {
-            if both_have(history, history_marks, n) {
-                if out == n {
-                    return out_marks == n;
-                }
-            }
-        }
-    }
-    false
-}
-
-// The refusal of the loop, before anything is written.
-fn refusal_of(
-    depths: &[u32],
-    projected: &[u64],
-    projected_marks: &[u8],
-    frontier: &[u64],
-    frontier_marks: &[u8],
-    history: &[u64],
-    history_marks: &[u8],
-    confirm: Rate,
-    alpha: f64,
-    out: usize,
-    out_marks: usize,
-) -> Outcome
-    ensures { refused_with result ≡ loop_refusal (args_of depths.now projected.now projected_marks.now frontier.now frontier_marks.now history.now history_marks.now (given confirm) alpha) out out_marks }
-{
-    if !lengths_agree(
-        depths,
-        projected,
-        projected_marks,
-        frontier,
-        frontier_marks,
-        history,
-        history_marks,
-        confirm,
-        alpha,
-        out,
-        out_marks,
-    ) {
-        return Outcome::Refused(1);
-    }
-    if !all_valid(projected_marks, frontier_marks, history_marks) {
-        return Outcome::Refused(8);
-    }
-    if !never_descends(depths) {
-        return Outcome::Refused(2);
-    }
-    Outcome::Done
-}
-
-// Publishes each depth, and holds.
-fn publish_and_hold(
-    depths: &[u32],
-    projected: &[u64],
-    projected_marks: &[u8],
-    frontier: &[u64],
-    frontier_marks: &[u8],
-    history: &[u64],
-    history_marks: &[u8],
-    confirm: Rate,
-    alpha: f64,
-    out: &mut [u64],
-    out_marks: &mut [u8],
-)
-    requires { loop_refusal (args_of depths.now projected.now projected_marks.now frontier.now frontier_marks.now history.now history_marks.now (given confirm) alpha) (length out.old) (length out_marks.old) ≡ none }
-    ensures out_after { out.new ≡ numbers_of (depth_rates (args_of depths.now projected.now projected_marks.now frontier.now frontier_marks.now history.now history_marks.now (given confirm) alpha)) }
-    ensures out_marks_after { out_marks.new ≡ marks_of (depth_rates (args_of depths.now projected.now projected_marks.now frontier.now frontier_marks.now history.now history_marks.now (given confirm) alpha)) }
-{
-    publish_all(
-        depths,
-        projected,
-        projected_marks,
-        frontier,
-        frontier_marks,
-        history,
-        history_marks,
-        confirm,
-        alpha,
-        out,
-        out_marks,
-    );
-    hold_all(out, out_marks);
-}
-
-// The loop over depths. Projected, frontier and history rates are numbers with marks; the share may
-// be any f64. Refusals: 1 for lists that are not of one length, then 8 for an input mark other than
+// The loop over depths. Refusals: 1 for lists that are not of one length, then 8 for an input mark other than
 // 0 or 1, then 2 for a depth less than the one before it; the output is left as found.
-pub fn published_depth_rates(
-    depths: &[u32],
-    projected: &[u64],
-    projected_marks: &[u8],
-    frontier: &[u64],
-    frontier_marks: &[u8],
-    history: &[u64],
-    history_marks: &[u8],
-    confirm: Rate,
-    alpha: f64,
-    out: &mut [u64],
-    out_marks: &mut [u8],
-) -> Outcome
-    ensures result_value { refused_with result ≡ loop_refusal (args_of depths.now projected.now projected_marks.now frontier.now frontier_marks.now history.now history_marks.now (given confirm) alpha) (length out.old) (length out_marks.old) }
-    ensures out_after { out.new ≡ loop_numbers (args_of depths.now projected.now projected_marks.now frontier.now frontier_marks.now history.now history_marks.now (given confirm) alpha) out.old out_marks.old }
-    ensures out_marks_after { out_marks.new ≡ loop_marks (args_of depths.now projected.now projected_marks.now frontier.now frontier_marks.now history.now history_marks.now (given confirm) alpha) out.old out_marks.old }
+#[tactic(auto, unfolding(crate::specs::Hold::loop_numbers, crate::specs::Hold::loop_marks))]
+pub fn published_depth_rates(lists: &DepthLists, out: &mut MarkedMut) -> Result<(), Refusal>
+    ensures result_value { refused_with result
+        ≡ loop_refusal (args_in lists.now) (length out.old.numbers.now) (length out.old.marks.now) }
+    ensures numbers_after { out.new.numbers.now
+        ≡ loop_numbers (args_in lists.now) out.old.numbers.now out.old.marks.now }
+    ensures marks_after { out.new.marks.now ≡ loop_marks (args_in lists.now) out.old.numbers.now out.old.marks.now }
+    ensures same_lists { SameLists out.new out.old }
 {
-    let outcome = refusal_of(
-        depths,
-        projected,
-        projected_marks,
-        frontier,
-        frontier_marks,
-        history,
-        history_marks,
-        confirm,
-        alpha,
-        out.len(),
-        out_marks.len(),
-    );
-    match outcome {
-        Outcome::Done => {
-            publish_and_hold(
-                depths,
-                projected,
-                projected_marks,
-                frontier,
-                frontier_marks,
-                history,
-                history_marks,
-                confirm,
-                alpha,
-                out,
-                out_marks,
-            );
-            Outcome::Done
-        }
-        Outcome::Refused(k) => Outcome::Refused(k),
-    }
+    lists.accept(out)?;
+    publish_all(lists, out);
+    hold_all(out);
+    Ok(())
 }

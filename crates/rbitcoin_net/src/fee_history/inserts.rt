@@ -1,324 +1,222 @@
 // What `insert` and `insert_if_absent` are made of.
 ghost use Rattle.std.specs.Prelude.{false, ◌≡◌, ◌+◌, ◌<◌, length};
+ghost use Rattle.rbitcoin_mempool.specs.Memory.{windows_of, SameLent};
 ghost use Rattle.rbitcoin_mempool.specs.Outcome.{verdict};
 ghost use Rattle.rbitcoin_mempool.specs.Rates.{given};
-ghost use Rattle.rbitcoin_mempool.specs.Windows.{windows, push_back_of, push_front_of};
+ghost use Rattle.rbitcoin_mempool.specs.Windows.{push_back_of, push_front_of};
 ghost use Rattle.rbitcoin_net.specs.Hashes.{hash_list, hash_of, Room};
-ghost use Rattle.rbitcoin_net.specs.Inserts.{sizes_refusal, Placed, Inserts, InsertsIfAbsent, filed, whole, push_rate, store_in, insert_in, preload_windows, preload_stale, insert_if_absent_in};
-ghost use Rattle.rbitcoin_net.specs.Lent.{rows, hashes, lent};
+ghost use Rattle.rbitcoin_net.specs.Inserts.{Placed, Inserts, InsertsIfAbsent, filed, push_rate, store_in, insert_in, preload_windows, preload_stale, insert_if_absent_in};
+ghost use Rattle.rbitcoin_net.specs.Lent.{lent_refusal};
+ghost use Rattle.rbitcoin_net.specs.Memory.{rows_of, hashes_of, lent_of, whole_of, SameRows, SameHashes};
 ghost use Rattle.rbitcoin_net.specs.Rooms.{Roomy};
 ghost use Rattle.rbitcoin_net.specs.Search.{is_held};
 
-use super::cuts::cut_at;
-use super::evict::evict;
-use super::hashes::note_hash;
-use super::rooms::hold_at;
+use super::memory::{HashMemory, RowMemory};
 use super::search::{is_at, lower_bound};
-use super::{BlockHash, FeeHistory, HistoricalFeeBlock, HistoryUpdate};
-use rbitcoin_mempool::answer::{Outcome, Rate};
-use rbitcoin_mempool::fee_analog::AnalogHistory;
+use super::{BlockHash, FeeHistory, HistoricalFeeBlock};
+use rbitcoin_mempool::answer::{Rate, Refusal};
+use rbitcoin_mempool::fee_analog::{AnalogHistory, WindowMemory};
 
 // A rate that is there goes behind the hurdles, unless they are stale.
 pub(crate) fn push_newest(
-    analog: AnalogHistory,
+    analog: &mut AnalogHistory,
     stale: bool,
     rate: Rate,
-    hurdles: &mut [u64],
-    befores: &mut [f64],
-    aheads: &mut [u64],
-) -> AnalogHistory
-    ensures { windows result hurdles.new befores.new aheads.new ≡ push_rate push_back_of (given rate) stale (windows analog hurdles.old befores.old aheads.old) }
+    windows: &mut WindowMemory,
+)
+    ensures pushed { windows_of analog.new windows.new
+        ≡ push_rate push_back_of (given rate) stale (windows_of analog.old windows.old) }
+    ensures lent { SameLent windows.old windows.new }
 {
     if stale {
-        return analog;
+        return;
     }
-    match rate {
-        Rate::There(number) => {
-            let r = analog.push_back(number, hurdles, befores, aheads);
-            r.state
-        }
-        Rate::Missing => analog,
+    if let Some(number) = rate {
+        let _ = analog.push_back(number, windows);
     }
 }
 
 // The same before them.
-fn push_oldest(
-    analog: AnalogHistory,
-    stale: bool,
-    rate: Rate,
-    hurdles: &mut [u64],
-    befores: &mut [f64],
-    aheads: &mut [u64],
-) -> AnalogHistory
-    ensures { windows result hurdles.new befores.new aheads.new ≡ push_rate push_front_of (given rate) stale (windows analog hurdles.old befores.old aheads.old) }
+fn push_oldest(analog: &mut AnalogHistory, stale: bool, rate: Rate, windows: &mut WindowMemory)
+    ensures pushed { windows_of analog.new windows.new
+        ≡ push_rate push_front_of (given rate) stale (windows_of analog.old windows.old) }
+    ensures lent { SameLent windows.old windows.new }
 {
     if stale {
-        return analog;
+        return;
     }
-    match rate {
-        Rate::There(number) => {
-            let r = analog.push_front(number, hurdles, befores, aheads);
-            r.state
-        }
-        Rate::Missing => analog,
+    if let Some(number) = rate {
+        let _ = analog.push_front(number, windows);
     }
 }
 
 // The rate of a preload at rank q of n held rows: behind the hurdles, before them, or nowhere.
 fn push_at(
-    analog: AnalogHistory,
+    analog: &mut AnalogHistory,
     stale: bool,
     rate: Rate,
     q: usize,
     n: usize,
-    hurdles: &mut [u64],
-    befores: &mut [f64],
-    aheads: &mut [u64],
-) -> AnalogHistory
-    ensures { windows result hurdles.new befores.new aheads.new ≡ preload_windows q n (given rate) stale (windows analog hurdles.old befores.old aheads.old) }
+    windows: &mut WindowMemory,
+)
+    ensures pushed { windows_of analog.new windows.new
+        ≡ preload_windows q n (given rate) stale (windows_of analog.old windows.old) }
+    ensures lent { SameLent windows.old windows.new }
 {
     if q == n {
-        return push_newest(analog, stale, rate, hurdles, befores, aheads);
+        push_newest(analog, stale, rate, windows);
+    } else if q == 0 {
+        push_oldest(analog, stale, rate, windows);
     }
-    if q == 0 {
-        return push_oldest(analog, stale, rate, hurdles, befores, aheads);
-    }
-    analog
 }
 
 // Whether the hurdles are stale then: a rate between held rows makes them so.
+#[tactic(auto, using(std::proofs::lemmas::Bool::Decides::nat_tests), unfolding(crate::specs::Inserts::preload_stale))]
 fn stale_at(q: usize, n: usize, rate: Rate, stale: bool) -> bool
     ensures { result ≡ preload_stale q n (given rate) stale }
 {
-    if q == n {
+    if q == n || q == 0 {
         return stale;
     }
-    if q == 0 {
-        return stale;
-    }
-    match rate {
-        Rate::There(_) => true,
-        Rate::Missing => stale,
-    }
+    rate.is_some() || stale
 }
 
-// A row put in at rank q of the held rows, its hash noted, and what is above the budget evicted.
-fn store(
-    s: FeeHistory,
-    q: usize,
-    height: u32,
-    block: HistoricalFeeBlock,
-    hash: BlockHash,
-    heights: &mut [u32],
-    marks: &mut [u8],
-    rates: &mut [u64],
-    sizes: &mut [u64],
-    hash_heights: &mut [u32],
-    hash_bytes: &mut [u8],
-) -> FeeHistory
-    requires { Roomy q s (length heights.old) (length marks.old) (length rates.old) (length sizes.old) × Room (hash_list s.hashes (hashes hash_heights.old hash_bytes.old)) }
-    ensures { filed result (rows heights.new marks.new rates.new sizes.new) (hashes hash_heights.new hash_bytes.new) ≡ store_in q height block (hash_of hash) (filed s (rows heights.old marks.old rates.old sizes.old) (hashes hash_heights.old hash_bytes.old)) }
-{
-    let t = hold_at(s, q, height, block, heights, marks, rates, sizes);
-    let noted = note_hash(t.hashes, height, hash, hash_heights, hash_bytes);
-    let mut u = t;
-    u.hashes = noted;
-    evict(u, heights, marks, rates, sizes, hash_heights, hash_bytes)
-}
-
-// What stands from `height` on goes, from place p on, and the new row is the newest.
-fn connect(
-    s: FeeHistory,
-    p: usize,
-    height: u32,
-    block: HistoricalFeeBlock,
-    hash: BlockHash,
-    heights: &mut [u32],
-    marks: &mut [u8],
-    rates: &mut [u64],
-    sizes: &mut [u64],
-    hash_heights: &mut [u32],
-    hash_bytes: &mut [u8],
-    hurdles: &mut [u64],
-    befores: &mut [f64],
-    aheads: &mut [u64],
-) -> FeeHistory
-    requires { Placed s (lent (rows heights.old marks.old rates.old sizes.old) (hashes hash_heights.old hash_bytes.old) hurdles.old befores.old aheads.old) height p × (p < s.start + s.analog.capacity) }
-    ensures { whole result (lent (rows heights.new marks.new rates.new sizes.new) (hashes hash_heights.new hash_bytes.new) hurdles.new befores.new aheads.new) ≡ insert_in height block (hash_of hash) (whole s (lent (rows heights.old marks.old rates.old sizes.old) (hashes hash_heights.old hash_bytes.old) hurdles.old befores.old aheads.old)) }
-{
-    let q = lower_bound(hash_heights, 0, s.hashes, height);
-    let mut t = cut_at(s, p, marks, rates, sizes);
-    t.hashes = q;
-    t.kept = false;
-    let rate = block.p10_sat_kvb;
-    let analog = t.analog;
-    let pushed = push_newest(analog, t.analog_stale, rate, hurdles, befores, aheads);
-    t.analog = pushed;
-    let rank = t.count;
-    store(
-        t,
-        rank,
-        height,
-        block,
-        hash,
-        heights,
-        marks,
-        rates,
-        sizes,
-        hash_heights,
-        hash_bytes,
+impl FeeHistory {
+    // A row put in at rank q of the held rows, its hash noted, and what is above the budget evicted.
+    fn store(
+        &mut self,
+        q: usize,
+        height: u32,
+        block: HistoricalFeeBlock,
+        hash: Option<BlockHash>,
+        rows: &mut RowMemory,
+        hashes: &mut HashMemory,
     )
-}
+        requires roomy { let m = rows.old in
+            Roomy q self.old (length m.heights.now) (length m.marks.now) (length m.rates.now) (length m.sizes.now) }
+        requires room { Room (hash_list self.old.hashes (hashes_of hashes.old)) }
+        ensures stored { filed self.new (rows_of rows.new) (hashes_of hashes.new)
+            ≡ store_in q height block (hash_of hash) (filed self.old (rows_of rows.old) (hashes_of hashes.old)) }
+        ensures rows { SameRows rows.old rows.new }
+        ensures hashes { SameHashes hashes.old hashes.new }
+    {
+        self.hold_at(q, height, block, rows);
+        self.hashes = hashes.note(self.hashes, height, hash);
+        self.evict(rows.lists(), hashes);
+    }
 
-// The row of an absent height, whose place is p.
-fn preload(
-    s: FeeHistory,
-    p: usize,
-    height: u32,
-    block: HistoricalFeeBlock,
-    hash: BlockHash,
-    heights: &mut [u32],
-    marks: &mut [u8],
-    rates: &mut [u64],
-    sizes: &mut [u64],
-    hash_heights: &mut [u32],
-    hash_bytes: &mut [u8],
-    hurdles: &mut [u64],
-    befores: &mut [f64],
-    aheads: &mut [u64],
-) -> FeeHistory
-    requires { Placed s (lent (rows heights.old marks.old rates.old sizes.old) (hashes hash_heights.old hash_bytes.old) hurdles.old befores.old aheads.old) height p × (is_held heights.old s height ≡ false) × (s.count < s.analog.capacity) }
-    ensures { whole result (lent (rows heights.new marks.new rates.new sizes.new) (hashes hash_heights.new hash_bytes.new) hurdles.new befores.new aheads.new) ≡ insert_if_absent_in height block (hash_of hash) (whole s (lent (rows heights.old marks.old rates.old sizes.old) (hashes hash_heights.old hash_bytes.old) hurdles.old befores.old aheads.old)) }
-{
-    let rank = p - s.start;
-    let rate = block.p10_sat_kvb;
-    let was = s.analog_stale;
-    let stale = stale_at(rank, s.count, rate, was);
-    let analog = s.analog;
-    let pushed = push_at(analog, was, rate, rank, s.count, hurdles, befores, aheads);
-    let mut t = s;
-    t.kept = false;
-    t.analog = pushed;
-    t.analog_stale = stale;
-    store(
-        t,
-        rank,
-        height,
-        block,
-        hash,
-        heights,
-        marks,
-        rates,
-        sizes,
-        hash_heights,
-        hash_bytes,
+    // What stands from `height` on goes, from place p on, and the new row is the newest.
+    fn connect(
+        &mut self,
+        p: usize,
+        height: u32,
+        block: HistoricalFeeBlock,
+        hash: Option<BlockHash>,
+        rows: &mut RowMemory,
+        hashes: &mut HashMemory,
+        windows: &mut WindowMemory,
     )
-}
+        requires placed { Placed self.old (lent_of rows.old hashes.old windows.old) height p }
+        requires room { p < self.old.start + self.old.analog.capacity }
+        ensures inserted { whole_of self.new rows.new hashes.new windows.new ≡ insert_in height block (hash_of hash) (whole_of self.old rows.old hashes.old windows.old) }
+        ensures rows_lent { SameRows rows.old rows.new }
+        ensures hashes_lent { SameHashes hashes.old hashes.new }
+        ensures windows_lent { SameLent windows.old windows.new }
+    {
+        let q = lower_bound(hashes.lists().heights, 0, self.hashes, height);
+        self.cut_at(p, rows.lists());
+        self.hashes = q;
+        self.kept = false;
+        push_newest(
+            &mut self.analog,
+            self.analog_stale,
+            block.p10_sat_kvb,
+            windows,
+        );
+        let rank = self.count;
+        self.store(rank, height, block, hash, rows, hashes);
+    }
 
-// A connect, of memory that serves.
-pub(crate) fn insert_lent(
-    s: FeeHistory,
-    height: u32,
-    block: HistoricalFeeBlock,
-    hash: BlockHash,
-    heights: &mut [u32],
-    marks: &mut [u8],
-    rates: &mut [u64],
-    sizes: &mut [u64],
-    hash_heights: &mut [u32],
-    hash_bytes: &mut [u8],
-    hurdles: &mut [u64],
-    befores: &mut [f64],
-    aheads: &mut [u64],
-) -> HistoryUpdate
-    requires { sizes_refusal s (length heights.old) (length marks.old) (length rates.old) (length sizes.old) (length hash_heights.old) (length hash_bytes.old) (length hurdles.old) (length befores.old) (length aheads.old) ≡ 0 }
-    ensures { Inserts height block (hash_of hash) (whole s (lent (rows heights.old marks.old rates.old sizes.old) (hashes hash_heights.old hash_bytes.old) hurdles.old befores.old aheads.old)) (verdict result.outcome) (whole result.state (lent (rows heights.new marks.new rates.new sizes.new) (hashes hash_heights.new hash_bytes.new) hurdles.new befores.new aheads.new)) }
-{
-    let start = s.start;
-    let end = start + s.count;
-    let p = lower_bound(heights, start, end, height);
-    let analog = s.analog;
-    if p - start == analog.capacity {
-        return HistoryUpdate {
-            outcome: Outcome::Refused(4),
-            state: s,
-        };
+    // The row of an absent height, whose place is p.
+    fn preload(
+        &mut self,
+        p: usize,
+        height: u32,
+        block: HistoricalFeeBlock,
+        hash: Option<BlockHash>,
+        rows: &mut RowMemory,
+        hashes: &mut HashMemory,
+        windows: &mut WindowMemory,
+    )
+        requires placed { Placed self.old (lent_of rows.old hashes.old windows.old) height p }
+        requires absent { is_held rows.old.heights.now self.old height ≡ false }
+        requires room { self.old.count < self.old.analog.capacity }
+        ensures inserted { whole_of self.new rows.new hashes.new windows.new ≡ insert_if_absent_in height block (hash_of hash) (whole_of self.old rows.old hashes.old windows.old) }
+        ensures rows_lent { SameRows rows.old rows.new }
+        ensures hashes_lent { SameHashes hashes.old hashes.new }
+        ensures windows_lent { SameLent windows.old windows.new }
+    {
+        let rank = p - self.start;
+        let rate = block.p10_sat_kvb;
+        let was = self.analog_stale;
+        self.kept = false;
+        self.analog_stale = stale_at(rank, self.count, rate, was);
+        push_at(&mut self.analog, was, rate, rank, self.count, windows);
+        self.store(rank, height, block, hash, rows, hashes);
     }
-    let state = connect(
-        s,
-        p,
-        height,
-        block,
-        hash,
-        heights,
-        marks,
-        rates,
-        sizes,
-        hash_heights,
-        hash_bytes,
-        hurdles,
-        befores,
-        aheads,
-    );
-    HistoryUpdate {
-        outcome: Outcome::Done,
-        state,
-    }
-}
 
-// A preload, of memory that serves.
-pub(crate) fn insert_absent_lent(
-    s: FeeHistory,
-    height: u32,
-    block: HistoricalFeeBlock,
-    hash: BlockHash,
-    heights: &mut [u32],
-    marks: &mut [u8],
-    rates: &mut [u64],
-    sizes: &mut [u64],
-    hash_heights: &mut [u32],
-    hash_bytes: &mut [u8],
-    hurdles: &mut [u64],
-    befores: &mut [f64],
-    aheads: &mut [u64],
-) -> HistoryUpdate
-    requires { sizes_refusal s (length heights.old) (length marks.old) (length rates.old) (length sizes.old) (length hash_heights.old) (length hash_bytes.old) (length hurdles.old) (length befores.old) (length aheads.old) ≡ 0 }
-    ensures { InsertsIfAbsent height block (hash_of hash) (whole s (lent (rows heights.old marks.old rates.old sizes.old) (hashes hash_heights.old hash_bytes.old) hurdles.old befores.old aheads.old)) (verdict result.outcome) (whole result.state (lent (rows heights.new marks.new rates.new sizes.new) (hashes hash_heights.new hash_bytes.new) hurdles.new befores.new aheads.new)) }
-{
-    let start = s.start;
-    let end = start + s.count;
-    let p = lower_bound(heights, start, end, height);
-    if is_at(heights, end, p, height) {
-        return HistoryUpdate {
-            outcome: Outcome::Done,
-            state: s,
-        };
+    // A connect, of memory that serves.
+    pub(crate) fn insert_lent(
+        &mut self,
+        height: u32,
+        block: HistoricalFeeBlock,
+        hash: Option<BlockHash>,
+        rows: &mut RowMemory,
+        hashes: &mut HashMemory,
+        windows: &mut WindowMemory,
+    ) -> Result<(), Refusal>
+        requires { lent_refusal self.old (lent_of rows.old hashes.old windows.old) ≡ 0 }
+        ensures inserted { Inserts height block (hash_of hash) (whole_of self.old rows.old hashes.old windows.old) (verdict result)
+            (whole_of self.new rows.new hashes.new windows.new) }
+        ensures rows_lent { SameRows rows.old rows.new }
+        ensures hashes_lent { SameHashes hashes.old hashes.new }
+        ensures windows_lent { SameLent windows.old windows.new }
+    {
+        let end = self.start + self.count;
+        let p = lower_bound(rows.lists().heights, self.start, end, height);
+        if p - self.start == self.analog.capacity {
+            return Err(Refusal::Full);
+        }
+        self.connect(p, height, block, hash, rows, hashes, windows);
+        Ok(())
     }
-    let analog = s.analog;
-    if s.count == analog.capacity {
-        return HistoryUpdate {
-            outcome: Outcome::Refused(4),
-            state: s,
-        };
-    }
-    let state = preload(
-        s,
-        p,
-        height,
-        block,
-        hash,
-        heights,
-        marks,
-        rates,
-        sizes,
-        hash_heights,
-        hash_bytes,
-        hurdles,
-        befores,
-        aheads,
-    );
-    HistoryUpdate {
-        outcome: Outcome::Done,
-        state,
+
+    // A preload, of memory that serves.
+    pub(crate) fn insert_absent_lent(
+        &mut self,
+        height: u32,
+        block: HistoricalFeeBlock,
+        hash: Option<BlockHash>,
+        rows: &mut RowMemory,
+        hashes: &mut HashMemory,
+        windows: &mut WindowMemory,
+    ) -> Result<(), Refusal>
+        requires { lent_refusal self.old (lent_of rows.old hashes.old windows.old) ≡ 0 }
+        ensures inserted { InsertsIfAbsent height block (hash_of hash) (whole_of self.old rows.old hashes.old windows.old) (verdict result)
+            (whole_of self.new rows.new hashes.new windows.new) }
+        ensures rows_lent { SameRows rows.old rows.new }
+        ensures hashes_lent { SameHashes hashes.old hashes.new }
+        ensures windows_lent { SameLent windows.old windows.new }
+    {
+        let end = self.start + self.count;
+        let p = lower_bound(rows.lists().heights, self.start, end, height);
+        if is_at(rows.lists().heights, end, p, height) {
+            return Ok(());
+        }
+        if self.count == self.analog.capacity {
+            return Err(Refusal::Full);
+        }
+        self.preload(p, height, block, hash, rows, hashes, windows);
+        Ok(())
     }
 }

@@ -6,7 +6,7 @@ ghost use Rattle.slices.specs.Lists.{tabulate};
 pub(crate) fn stored_mark(mark: u8) -> u8
     ensures { result ≡ cond (eqb mark 1) 1 0 }
 {
-    if mark == 1 { 1 } else { 0 }
+    u8::from(mark == 1)
 }
 
 // A stored number as an answer's: 0 where its mark is not 1.
@@ -21,10 +21,8 @@ pub(crate) fn put_marks(out: &mut [u8], marks: &[u8], start: usize, n: usize)
     requires { (start + n ≤ length marks.now) × (n ≤ length out.old) }
     ensures { out.new ≡ tabulate (λ i. cond (eqb (get_or marks.now i 0) 1) 1 0) start n ++ drop n out.old }
 {
-    let mut i = 0;
-    while i < n {
+    for i in 0..n {
         out[i] = stored_mark(marks[start + i]);
-        i += 1;
     }
 }
 
@@ -33,9 +31,7 @@ pub(crate) fn put_rates(out: &mut [u64], marks: &[u8], rates: &[u64], start: usi
     requires { (start + n ≤ length marks.now) × (start + n ≤ length rates.now) × (n ≤ length out.old) }
     ensures { out.new ≡ tabulate (λ i. cond (eqb (get_or marks.now i 0) 1) (get_or rates.now i 0) 0) start n ++ drop n out.old }
 {
-    let mut i = 0;
-    while i < n {
+    for i in 0..n {
         out[i] = stored_number(marks[start + i], rates[start + i]);
-        i += 1;
     }
 }

@@ -1,248 +1,158 @@
-// What calls on a history are refused with, 0 for nothing.
+// What calls on a history are refused with.
 ghost use Rattle.std.specs.Prelude.{◌≡◌};
+ghost use Rattle.rbitcoin_mempool.specs.Outcome.{refusal_of};
 ghost use Rattle.rbitcoin_mempool.specs.Windows.{or_else};
-ghost use Rattle.rbitcoin_mempool.specs.Windows.{state_refusal as windows_refusal, size_refusal as windows_size_refusal};
 ghost use Rattle.rbitcoin_net.specs.Lent.{state_refusal, rows_refusal, hashes_refusal};
 ghost use Rattle.rbitcoin_net.specs.Cuts.{truncate_refusal};
 ghost use Rattle.rbitcoin_net.specs.Inserts.{sizes_refusal};
 ghost use Rattle.rbitcoin_net.specs.Rates.{rates_refusal};
 ghost use Rattle.rbitcoin_net.specs.Readers.{entries_refusal, recent_refusal};
 
+use super::memory::{HashSizes, RowSizes};
 use super::{FeeHistory, RECENT_HASHES};
-use rbitcoin_mempool::fee_analog::AnalogHistory;
+use rbitcoin_mempool::answer::Refusal;
+use rbitcoin_mempool::fee_analog::WindowSizes;
 
-fn windows_refusal(s: AnalogHistory) -> u8
-    ensures { result ≡ windows_refusal s }
-{
-    if s.tracked > 16 {
-        return 3;
+impl RowSizes {
+    // Rows for a capacity.
+    #[tactic(auto, using(std::proofs::lemmas::Bool::Decides::nat_tests), unfolding(crate::specs::Lent::rows_refusal))]
+    pub(crate) fn check(&self, capacity: usize) -> Result<(), Refusal>
+        ensures { let z = self.now in
+            refusal_of result ≡ rows_refusal capacity z.heights z.marks z.rates z.sizes }
+    {
+        if self.heights < capacity
+            || self.marks < capacity
+            || self.rates < capacity
+            || self.sizes < capacity
+        {
+            return Err(Refusal::Short);
+        }
+        Ok(())
     }
-    if s.capacity > 65536 {
-        return 5;
-    }
-    if s.start > s.capacity {
-        return 5;
-    }
-    if s.count > s.capacity - s.start {
-        return 5;
-    }
-    0
 }
 
-// A state that no call returns.
-pub(crate) fn state_refusal(s: FeeHistory) -> u8
-    ensures { result ≡ state_refusal s }
-{
-    let analog = s.analog;
-    let of_windows = windows_refusal(analog);
-    if of_windows != 0 {
-        return of_windows;
+impl HashSizes {
+    #[tactic(auto, using(std::proofs::lemmas::Bool::Decides::nat_tests), unfolding(crate::specs::Lent::hashes_refusal))]
+    pub(crate) fn check(&self) -> Result<(), Refusal>
+        ensures { refusal_of result ≡ hashes_refusal self.now.heights self.now.bytes }
+    {
+        if self.heights < RECENT_HASHES || self.bytes < 32 * RECENT_HASHES {
+            return Err(Refusal::Short);
+        }
+        Ok(())
     }
-    if s.start > analog.capacity {
-        return 5;
-    }
-    if s.count > analog.capacity - s.start {
-        return 5;
-    }
-    if s.hashes > RECENT_HASHES {
-        return 5;
-    }
-    0
 }
 
-// Rows of these sizes, for a capacity.
-pub(crate) fn rows_size_refusal(capacity: usize, h: usize, m: usize, r: usize, z: usize) -> u8
-    ensures { result ≡ rows_refusal capacity h m r z }
-{
-    if h < capacity {
-        return 5;
+impl FeeHistory {
+    // A state that no call returns.
+    #[tactic(auto, using(rbitcoin_mempool::proofs::Refusals::refusal_steps), unfolding(crate::specs::Lent::state_refusal))]
+    pub(crate) fn check(&self) -> Result<(), Refusal>
+        ensures { refusal_of result ≡ state_refusal self.now }
+    {
+        let analog = self.analog;
+        analog.check()?;
+        if self.start > analog.capacity
+            || self.count > analog.capacity - self.start
+            || self.hashes > RECENT_HASHES
+        {
+            return Err(Refusal::Short);
+        }
+        Ok(())
     }
-    if m < capacity {
-        return 5;
-    }
-    if r < capacity {
-        return 5;
-    }
-    if z < capacity {
-        return 5;
-    }
-    0
-}
 
-// Hashes of these sizes.
-pub(crate) fn hashes_size_refusal(h: usize, b: usize) -> u8
-    ensures { result ≡ hashes_refusal h b }
-{
-    if h < RECENT_HASHES {
-        return 5;
+    // A call that lends the rows.
+    #[tactic(auto, using(rbitcoin_mempool::proofs::Refusals::refusal_steps))]
+    pub(crate) fn check_rows(&self, rows: RowSizes) -> Result<(), Refusal>
+        ensures { let s = self.now in
+            refusal_of result
+            ≡ or_else (state_refusal s) (rows_refusal s.analog.capacity rows.heights rows.marks rows.rates rows.sizes) }
+    {
+        self.check()?;
+        rows.check(self.analog.capacity)
     }
-    if b < 4608 {
-        return 5;
-    }
-    0
-}
 
-// A call that lends the rows.
-pub(crate) fn rows_refusal(s: FeeHistory, h: usize, m: usize, r: usize, z: usize) -> u8
-    ensures { result ≡ or_else (state_refusal s) (rows_refusal s.analog.capacity h m r z) }
-{
-    let of_state = state_refusal(s);
-    if of_state != 0 {
-        return of_state;
+    // A call that lends the hashes.
+    #[tactic(auto, using(rbitcoin_mempool::proofs::Refusals::refusal_steps))]
+    pub(crate) fn check_hashes(&self, hashes: HashSizes) -> Result<(), Refusal>
+        ensures { refusal_of result ≡ or_else (state_refusal self.now) (hashes_refusal hashes.heights hashes.bytes) }
+    {
+        self.check()?;
+        hashes.check()
     }
-    let analog = s.analog;
-    rows_size_refusal(analog.capacity, h, m, r, z)
-}
 
-// A call that lends the hashes.
-pub(crate) fn hashes_refusal(s: FeeHistory, h: usize, b: usize) -> u8
-    ensures { result ≡ or_else (state_refusal s) (hashes_refusal h b) }
-{
-    let of_state = state_refusal(s);
-    if of_state != 0 {
-        return of_state;
+    // `entries`: the rows, and the output lists.
+    #[tactic(auto, using(rbitcoin_mempool::proofs::Refusals::refusal_steps), unfolding(crate::specs::Readers::entries_refusal))]
+    pub(crate) fn check_entries(&self, rows: RowSizes, out: RowSizes) -> Result<(), Refusal>
+        ensures { refusal_of result ≡ entries_refusal self.now rows.heights rows.marks rows.rates rows.sizes
+            out.heights out.marks out.rates out.sizes }
+    {
+        if out.rates != out.marks {
+            return Err(Refusal::Unpaired);
+        }
+        self.check_rows(rows)?;
+        out.check(self.count)
     }
-    hashes_size_refusal(h, b)
-}
 
-// `entries`: the lengths of the rows, and of the output lists for heights, marks, rates and sizes.
-pub(crate) fn entries_refusal(
-    s: FeeHistory,
-    h: usize,
-    m: usize,
-    r: usize,
-    z: usize,
-    to_h: usize,
-    to_m: usize,
-    to_r: usize,
-    to_z: usize,
-) -> u8
-    ensures { result ≡ entries_refusal s h m r z to_h to_m to_r to_z }
-{
-    if to_r != to_m {
-        return 1;
+    // `recent_hashes`: the hashes, and the output lists.
+    #[tactic(auto, using(rbitcoin_mempool::proofs::Refusals::refusal_steps), unfolding(crate::specs::Readers::recent_refusal))]
+    pub(crate) fn check_recent(&self, hashes: HashSizes, out: HashSizes) -> Result<(), Refusal>
+        ensures { refusal_of result ≡ recent_refusal self.now hashes.heights hashes.bytes out.heights out.bytes }
+    {
+        self.check_hashes(hashes)?;
+        if out.heights < self.hashes || out.bytes / 32 < self.hashes {
+            return Err(Refusal::Short);
+        }
+        Ok(())
     }
-    let of_rows = rows_refusal(s, h, m, r, z);
-    if of_rows != 0 {
-        return of_rows;
-    }
-    rows_size_refusal(s.count, to_h, to_m, to_r, to_z)
-}
 
-// `recent_hashes`: the lengths of the hashes, and of the output lists.
-pub(crate) fn recent_refusal(s: FeeHistory, h: usize, b: usize, to_h: usize, to_b: usize) -> u8
-    ensures { result ≡ recent_refusal s h b to_h to_b }
-{
-    let of_hashes = hashes_refusal(s, h, b);
-    if of_hashes != 0 {
-        return of_hashes;
+    // `truncate_above`: the rows and the hashes.
+    #[tactic(auto, using(rbitcoin_mempool::proofs::Refusals::refusal_steps), unfolding(crate::specs::Cuts::truncate_refusal))]
+    pub(crate) fn check_truncate(&self, rows: RowSizes, hashes: HashSizes) -> Result<(), Refusal>
+        ensures { refusal_of result ≡ truncate_refusal self.now rows.heights rows.marks rows.rates rows.sizes
+            hashes.heights hashes.bytes }
+    {
+        self.check_rows(rows)?;
+        hashes.check()
     }
-    if to_h < s.hashes {
-        return 5;
-    }
-    if to_b / 32 < s.hashes {
-        return 5;
-    }
-    0
-}
 
-// `truncate_above`: the lengths of the rows and of the hashes.
-pub(crate) fn truncate_refusal(
-    s: FeeHistory,
-    h: usize,
-    m: usize,
-    r: usize,
-    z: usize,
-    zh: usize,
-    zb: usize,
-) -> u8
-    ensures { result ≡ truncate_refusal s h m r z zh zb }
-{
-    let of_rows = rows_refusal(s, h, m, r, z);
-    if of_rows != 0 {
-        return of_rows;
+    // A call that lends all.
+    #[tactic(auto, using(rbitcoin_mempool::proofs::Refusals::refusal_steps), unfolding(crate::specs::Inserts::sizes_refusal))]
+    pub(crate) fn check_lent(
+        &self,
+        rows: RowSizes,
+        hashes: HashSizes,
+        windows: WindowSizes,
+    ) -> Result<(), Refusal>
+        ensures { refusal_of result ≡ sizes_refusal self.now rows.heights rows.marks rows.rates rows.sizes
+            hashes.heights hashes.bytes windows.hurdles windows.befores windows.aheads }
+    {
+        self.check_rows(rows)?;
+        hashes.check()?;
+        self.analog.check_sizes(windows)
     }
-    hashes_size_refusal(zh, zb)
-}
 
-// The windows' memory of these sizes.
-fn windows_size_refusal(s: AnalogHistory, u: usize, b: usize, a: usize) -> u8
-    requires { windows_refusal s ≡ 0 }
-    ensures { result ≡ windows_size_refusal s u b a }
-{
-    if u < s.capacity {
-        return 5;
+    // `rates`: the rows, the windows' memory, the scratch, and the output lists.
+    #[tactic(auto, using(rbitcoin_mempool::proofs::Refusals::refusal_steps), unfolding(crate::specs::Rates::rates_refusal))]
+    pub(crate) fn check_rates(
+        &self,
+        rows: RowSizes,
+        windows: WindowSizes,
+        scratch: usize,
+        numbers: usize,
+        marks: usize,
+    ) -> Result<(), Refusal>
+        ensures { refusal_of result ≡ rates_refusal self.now rows.heights rows.marks rows.rates rows.sizes
+            windows.hurdles windows.befores windows.aheads scratch numbers marks }
+    {
+        if numbers != marks {
+            return Err(Refusal::Unpaired);
+        }
+        self.check_rows(rows)?;
+        let analog = self.analog;
+        analog.check_sizes(windows)?;
+        if scratch < analog.capacity || numbers < analog.tracked {
+            return Err(Refusal::Short);
+        }
+        Ok(())
     }
-    let places = s.tracked * s.capacity;
-    if b < places {
-        return 5;
-    }
-    if a < places {
-        return 5;
-    }
-    0
-}
-
-// A call that lends all: the lengths of the rows, of the hashes, and of the windows' memory.
-pub(crate) fn lent_refusal(
-    s: FeeHistory,
-    h: usize,
-    m: usize,
-    r: usize,
-    z: usize,
-    zh: usize,
-    zb: usize,
-    u: usize,
-    b: usize,
-    a: usize,
-) -> u8
-    ensures { result ≡ sizes_refusal s h m r z zh zb u b a }
-{
-    let of_rows = rows_refusal(s, h, m, r, z);
-    if of_rows != 0 {
-        return of_rows;
-    }
-    let of_hashes = hashes_size_refusal(zh, zb);
-    if of_hashes != 0 {
-        return of_hashes;
-    }
-    let analog = s.analog;
-    windows_size_refusal(analog, u, b, a)
-}
-
-// `rates`: the lengths of the rows, of the windows' memory, of the scratch, and of the output lists.
-pub(crate) fn rates_refusal(
-    s: FeeHistory,
-    h: usize,
-    m: usize,
-    r: usize,
-    z: usize,
-    u: usize,
-    b: usize,
-    a: usize,
-    x: usize,
-    to_n: usize,
-    to_m: usize,
-) -> u8
-    ensures { result ≡ rates_refusal s h m r z u b a x to_n to_m }
-{
-    if to_n != to_m {
-        return 1;
-    }
-    let of_rows = rows_refusal(s, h, m, r, z);
-    if of_rows != 0 {
-        return of_rows;
-    }
-    let analog = s.analog;
-    let of_windows = windows_size_refusal(analog, u, b, a);
-    if of_windows != 0 {
-        return of_windows;
-    }
-    if x < analog.capacity {
-        return 5;
-    }
-    if to_n < analog.tracked {
-        return 5;
-    }
-    0
 }

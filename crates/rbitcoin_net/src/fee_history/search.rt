@@ -1,9 +1,12 @@
 // The place of a height among the held rows, and the block there.
-ghost use Rattle.std.specs.Prelude.{◌≡◌, ◌+◌, ◌-◌, ◌≤◌, ◌<◌, length, []};
-ghost use Rattle.rbitcoin_net.specs.Lent.{rows, rate_of, block_at};
-ghost use Rattle.rbitcoin_net.specs.Search.{bisect, is_at, looked, look_up_in};
+ghost use Rattle.std.specs.Prelude.{◌≡◌, ◌+◌, ◌-◌, ◌≤◌, ◌<◌, length};
+ghost use Rattle.rbitcoin_mempool.specs.Rates.{given, mark_of, number_of};
+ghost use Rattle.rbitcoin_net.specs.Lent.{rate_of, block_at, Reach};
+ghost use Rattle.rbitcoin_net.specs.Search.{bisect, is_at, looked_up, look_up_in};
+ghost use Rattle.rbitcoin_net.specs.Memory.{rows_seen};
 
-use super::{BlockAnswer, FeeHistory, HistoricalFeeBlock};
+use super::memory::RowLists;
+use super::{FeeHistory, HistoricalFeeBlock};
 use rbitcoin_mempool::answer::Rate;
 
 // Where heights ascend, the first place from lo to hi whose height is at least `height`.
@@ -27,50 +30,53 @@ pub(crate) fn is_at(heights: &[u32], end: usize, place: usize, height: u32) -> b
     requires { end ≤ length heights.now }
     ensures { result ≡ is_at heights.now end height place }
 {
-    if place < end {
-        heights[place] == height
-    } else {
-        false
-    }
+    place < end && heights[place] == height
 }
 
 pub(crate) fn rate_of(mark: u8, number: u64) -> Rate
     ensures { result ≡ rate_of mark number }
 {
-    if mark == 1 {
-        Rate::There(number)
-    } else {
-        Rate::Missing
+    (mark == 1).then_some(number)
+}
+
+// A rate as it is stored: its mark and its number, 0 where it is missing.
+pub(crate) fn mark_of(rate: Rate) -> u8
+    ensures { result ≡ mark_of (given rate) }
+{
+    u8::from(rate.is_some())
+}
+
+pub(crate) fn number_of(rate: Rate) -> u64
+    ensures { result ≡ number_of (given rate) }
+{
+    rate.unwrap_or(0)
+}
+
+impl RowLists<'_> {
+    pub(crate) fn block_at(&self, at: usize) -> HistoricalFeeBlock
+        requires { let m = self.now in
+            (at < length m.marks.now) × (at < length m.rates.now) × (at < length m.sizes.now) }
+        ensures { result ≡ block_at (rows_seen self.now) at }
+    {
+        HistoricalFeeBlock {
+            p10_sat_kvb: rate_of(self.marks[at], self.rates[at]),
+            txstat_bytes: self.sizes[at],
+        }
     }
 }
 
-pub(crate) fn block_at(marks: &[u8], rates: &[u64], sizes: &[u64], at: usize) -> HistoricalFeeBlock
-    requires { (at < length marks.now) × (at < length rates.now) × (at < length sizes.now) }
-    ensures { result ≡ block_at (rows [] marks.now rates.now sizes.now) at }
-{
-    HistoricalFeeBlock {
-        p10_sat_kvb: rate_of(marks[at], rates[at]),
-        txstat_bytes: sizes[at],
+impl FeeHistory {
+    // The held block of a height.
+    pub(crate) fn look_up(&self, height: u32, rows: RowLists) -> Option<HistoricalFeeBlock>
+        requires { Reach self.now (rows_seen rows) }
+        ensures { looked_up result ≡ look_up_in self.now (rows_seen rows.entry) height }
+    {
+        let end = self.start + self.count;
+        let place = lower_bound(rows.heights, self.start, end, height);
+        if is_at(rows.heights, end, place, height) {
+            Some(rows.block_at(place))
+        } else {
+            None
+        }
     }
-}
-
-// The held block of a height.
-pub(crate) fn look_up(
-    s: FeeHistory,
-    height: u32,
-    heights: &[u32],
-    marks: &[u8],
-    rates: &[u64],
-    sizes: &[u64],
-) -> BlockAnswer
-    requires { (s.start + s.count ≤ length heights.now) × (s.start + s.count ≤ length marks.now) × (s.start + s.count ≤ length rates.now) × (s.start + s.count ≤ length sizes.now) }
-    ensures { looked result ≡ look_up_in s (rows heights.now marks.now rates.now sizes.now) height }
-{
-    let start = s.start;
-    let end = start + s.count;
-    let place = lower_bound(heights, start, end, height);
-    if is_at(heights, end, place, height) {
-        return BlockAnswer::Held(block_at(marks, rates, sizes, place));
-    }
-    BlockAnswer::Nothing
 }

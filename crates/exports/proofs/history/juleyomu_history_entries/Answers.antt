@@ -2,12 +2,14 @@
 use mathlib.Core.Path.{ap, sym}
 use Rattle.exports.proofs.Verdicts.{counted_back}
 use Rattle.exports.specs.Counts.{count_number}
+use Rattle.std.proofs.Common.{rules}
 use Rattle.exports.proofs.history.juleyomu_history_entries.Goals as goal
 
 pub returns : goal.returns
 returns c =
-    let back = counted_back _ _ _ c.entries.ensures.is in
+    let u = c.into.ensures in
+    let back = counted_back _ _ _ c.entries.ensures.written.is in
     record {
-      entries = rw c.count_fields.ensures.0 (rw c.count_fields.ensures.1 (rw (sym back) c.entries.ensures));
-      count_value = rw c.count_fields.ensures.0 (rw c.count_fields.ensures.1 (ap count_number back));
+      entries = rw u.0 (rw u.1 (rw (sym back) (search rules)));
+      count_value = rw u.0 (rw u.1 (ap count_number back));
     }

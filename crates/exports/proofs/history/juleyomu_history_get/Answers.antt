@@ -6,5 +6,5 @@ use Rattle.exports.proofs.history.juleyomu_history_get.Goals as goal
 
 pub returns : goal.returns
 returns c =
-    let r = c.block_fields.result in
-    subst (λ (a : Looked). BlockIs a r.refusal r.held r.block.mark r.block.rate r.block.bytes) c.get.ensures.is c.block_fields.ensures
+    let r = c.into.result in
+    subst (λ (a : Looked). BlockIs a r.refusal r.held r.block.mark r.block.rate r.block.bytes) c.get.ensures.is c.into.ensures

@@ -2,8 +2,12 @@
 use mathlib.Core.Path.{ap, sym, ◌∙◌}
 use Rattle.exports.proofs.Verdicts.{verdict-back}
 use Rattle.rbitcoin_mempool.specs.Outcome.{verdict_of}
+use Rattle.std.proofs.Common.{rules}
 use Rattle.exports.proofs.history.juleyomu_history_insert.Goals as goal
 
 pub returns : goal.returns
 returns c =
-    rw c.history_fields.ensures.1 (rw (ap verdict_of c.history_fields.ensures.0 ∙ sym (verdict-back _ _ c.insert.ensures.outcome)) (rw (sym c.block_of.ensures) c.insert.ensures))
+    let u = c.history_fields.ensures in
+    let e = c.insert-outcome.ensures.inserted in
+    rw u.state (rw (ap verdict_of u.refusal ∙ sym (verdict-back _ _ e.outcome))
+    (rw (sym c.into.ensures, sym c.into-2.ensures) (search rules)))

@@ -4,6 +4,14 @@ use Rattle.exports.proofs.Verdicts.{verdict-back}
 use Rattle.rbitcoin_mempool.specs.Outcome.{verdict_of}
 use Rattle.exports.proofs.history.juleyomu_history_new.Goals as goal
 
-pub returns : goal.returns
-returns c =
-    rw c.history_fields.ensures.1 (rw (ap verdict_of c.history_fields.ensures.0 ∙ sym (verdict-back _ _ c.new.ensures.outcome)) c.new.ensures)
+pub returns-in-Ok : goal.returns-in-Ok
+returns-in-Ok c =
+    let u = c.history_fields.ensures in
+    let e = c.in-Ok.ensures in
+    rw u.state (rw (ap verdict_of u.refusal ∙ sym (verdict-back _ _ e.outcome)) e)
+
+pub returns-in-Err : goal.returns-in-Err
+returns-in-Err c =
+    let u = c.history_fields-in-Err.ensures in
+    let e = c.in-Err.ensures in
+    rw (u.state ∙ c.unopened.ensures) (rw (ap verdict_of u.refusal ∙ sym (verdict-back _ _ e.outcome)) e)

@@ -2,8 +2,11 @@
 use mathlib.Core.Path.{ap, sym, ◌∙◌}
 use Rattle.exports.proofs.Verdicts.{verdict-back}
 use Rattle.rbitcoin_mempool.specs.Outcome.{verdict_of}
+use Rattle.std.proofs.Common.{rules}
 use Rattle.exports.proofs.history.juleyomu_history_rates.Goals as goal
 
 pub returns : goal.returns
 returns c =
-    rw c.history_fields.ensures.1 (rw (ap verdict_of c.history_fields.ensures.0 ∙ sym (verdict-back _ _ c.rates.ensures.outcome)) c.rates.ensures)
+    let u = c.history_fields.ensures in
+    let e = c.rates-outcome.ensures.answers in
+    rw u.state (rw (ap verdict_of u.refusal ∙ sym (verdict-back _ _ e.outcome)) (search rules))

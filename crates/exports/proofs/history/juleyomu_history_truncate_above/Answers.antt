@@ -6,4 +6,6 @@ use Rattle.exports.proofs.history.juleyomu_history_truncate_above.Goals as goal
 
 pub returns : goal.returns
 returns c =
-    rw c.history_fields.ensures.1 (rw (ap verdict_of c.history_fields.ensures.0 ∙ sym (verdict-back _ _ c.truncate_above.ensures.outcome)) c.truncate_above.ensures)
+    let u = c.history_fields.ensures in
+    let e = c.truncate_above-outcome.ensures in
+    rw u.state (rw (ap verdict_of u.refusal ∙ sym (verdict-back _ _ e.outcome)) e)

@@ -6,8 +6,8 @@ use Rattle.exports.proofs.windows.juleyomu_log_quantile.Goals as goal
 
 pub returns : goal.returns
 returns c =
-    let r = c.rate_fields.result in
+    let r = c.into.result in
     record {
-      fields = subst (λ (a : Answer). Fields a r.refusal r.mark r.rate) c.log_quantile.ensures.result_value c.rate_fields.ensures;
+      fields = subst (λ (a : Answer). Fields a r.refusal r.mark r.rate) c.log_quantile.ensures.result_value c.into.ensures;
       outcomes_after = c.log_quantile.ensures.outcomes_after;
     }

@@ -6,5 +6,5 @@ use Rattle.exports.proofs.windows.juleyomu_lower_median.Goals as goal
 
 pub returns : goal.returns
 returns c =
-    let r = c.rate_fields.result in
-    subst (λ (a : Answer). Fields a r.refusal r.mark r.rate) c.lower_median.ensures c.rate_fields.ensures
+    let r = c.into.result in
+    subst (λ (a : Answer). Fields a r.refusal r.mark r.rate) c.lower_median.ensures c.into.ensures

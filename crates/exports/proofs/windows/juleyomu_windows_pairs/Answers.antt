@@ -4,4 +4,4 @@ use Rattle.exports.specs.Counts.{count_refusal, count_number}
 use Rattle.exports.proofs.windows.juleyomu_windows_pairs.Goals as goal
 
 pub returns : goal.returns
-returns c = (c.count_fields.ensures.0 ∙ ap count_refusal c.pairs.ensures, c.count_fields.ensures.1 ∙ ap count_number c.pairs.ensures)
+returns c = (c.into.ensures.0 ∙ ap count_refusal c.pairs.ensures, c.into.ensures.1 ∙ ap count_number c.pairs.ensures)

@@ -7,8 +7,9 @@ use Rattle.exports.proofs.windows.juleyomu_windows_rate_sat_kvb.Goals as goal
 
 pub returns : goal.returns
 returns c =
-    let r = c.rate_fields.result in
+    let r = c.into.result in
+    let e = c.rate_sat_kvb.ensures in
     record {
-      fields = subst (λ (a : Answer). Fields a r.refusal r.mark r.rate) c.rate_sat_kvb.ensures.result_value c.rate_fields.ensures;
-      scratch_after = subst (λ (a : Answer). ScratchAfter a c.args.scratch.now c.rate_sat_kvb.new.scratch) c.rate_sat_kvb.ensures.result_value c.rate_sat_kvb.ensures.scratch_after;
+      fields = subst (λ (a : Answer). Fields a r.refusal r.mark r.rate) e.rate c.into.ensures;
+      scratch_after = subst (λ (a : Answer). ScratchAfter a c.args.scratch.now c.rate_sat_kvb.new.scratch) e.rate e.scratch_after;
     }

@@ -6,6 +6,6 @@ pub returns-then-dt : goal.returns-then-dt
 unfolding of_bits of_int
 returns-then-dt c = rw c.if-dt.true
 
-pub returns : goal.returns
+pub returns-else-dt : goal.returns-else-dt
 unfolding of_bits of_int
-returns c = rw c.if-dt.false
+returns-else-dt c = rw c.if-dt.false

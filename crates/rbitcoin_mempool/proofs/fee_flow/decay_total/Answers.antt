@@ -8,6 +8,6 @@ pub returns-then-dt : goal.returns-then-dt
 unfolding of_bits of_int
 returns-then-dt c = sym (decayed-none c.args.dt c.args.total c.if-dt.true)
 
-pub returns : goal.returns
+pub returns-else-dt : goal.returns-else-dt
 unfolding of_bits of_int
-returns c = decayed-by c.args.dt c.args.total c.args.share c.if-dt.false c.requires
+returns-else-dt c = decayed-by c.args.dt c.args.total c.args.share c.if-dt.false c.requires

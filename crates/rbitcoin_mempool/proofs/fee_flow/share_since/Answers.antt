@@ -10,6 +10,3 @@ returns-then-since c = λ _.
     c.secs_between-since.ensures
     c.if-last-last_admit.true
     c.if-since.true
-
-pub returns : goal.returns
-returns c = rw c.secs_between-since.ensures at c.share_after.ensures

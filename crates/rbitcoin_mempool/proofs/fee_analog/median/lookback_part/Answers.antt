@@ -4,5 +4,4 @@ use Rattle.rbitcoin_mempool.proofs.Medians.{lookback-is}
 use Rattle.rbitcoin_mempool.proofs.fee_analog.median.lookback_part.Goals as goal
 
 pub returns : goal.returns
-returns c =
-    lookback-is c.args.hurdles.now c.args.t c.args.n _ _ c.smaller-end.ensures (omega (arith, c.smaller.ensures))
+returns c = lookback-is c.args.hurdles.now c.args.t c.args.n _ _ (omega arith) (omega arith)

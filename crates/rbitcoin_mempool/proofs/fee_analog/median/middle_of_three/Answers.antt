@@ -4,6 +4,4 @@ use Rattle.rbitcoin_mempool.proofs.Medians.{three}
 use Rattle.rbitcoin_mempool.proofs.fee_analog.median.middle_of_three.Goals as goal
 
 pub returns : goal.returns
-returns c =
-    let e = three c.args.a c.args.b c.args.c in
-    omega (arith, e, c.greatest.ensures, c.least.ensures, c.greatest-high.ensures, c.least-low.ensures)
+returns c = let e = three c.args.a c.args.b c.args.c in omega arith

@@ -9,8 +9,5 @@ loop-i-init c = fill_start _ _ _
 pub loop-i-preserved : goal.loop-i-preserved
 loop-i-preserved c = fill-next _ _ _ _ _ c.loop-i.invariant c.requires (omega arith) _ _ c.abs_bits.ensures
 
-pub shape_of-out : goal.shape_of-out
-shape_of-out c = c.loop-i.invariant.size
-
 pub returns : goal.returns
 returns c = fill_end _ _ _ _ _ c.loop-i.invariant c.requires (omega arith)

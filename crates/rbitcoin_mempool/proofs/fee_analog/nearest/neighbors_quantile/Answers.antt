@@ -1,5 +1,5 @@
 -- `fee_analog::nearest::neighbors_quantile` meets its contract. Assumes nothing.
-use Rattle.std.proofs.Common.{length, sym, ap, ◌∙◌, arith, length-take}
+use Rattle.std.proofs.Common.{ap, ◌∙◌}
 use Rattle.rbitcoin_mempool.specs.Quantile.{quantile_of}
 use Rattle.rbitcoin_mempool.proofs.Neighbors.{few, enough}
 use Rattle.rbitcoin_mempool.proofs.fee_analog.nearest.neighbors_quantile.Goals as goal
@@ -8,14 +8,6 @@ pub returns-then-n-lt-ANALOG_MIN_NEIGHBORS : goal.returns-then-n-lt-ANALOG_MIN_N
 returns-then-n-lt-ANALOG_MIN_NEIGHBORS c =
     c.nearest_quantile.ensures
     ∙ ap (λ l. quantile_of l c.args.confidence) (few c.args.level _ _ c.collect_in_band-n.ensures.value c.if-n-lt-ANALOG_MIN_NEIGHBORS.true)
-
-pub slice_bounds-quantile_of-end : goal.slice_bounds-quantile_of-end
-slice_bounds-quantile_of-end c =
-    omega (arith, length-take c.collect_in_band-n.result c.collect_in_band-n.new.out, ap length c.collect_in_band-n.ensures.out_after ∙ sym c.collect_in_band-n.ensures.value)
-
-pub slice_bounds-quantile_of-end-2 : goal.slice_bounds-quantile_of-end-2
-slice_bounds-quantile_of-end-2 c =
-    sym (ap length c.collect_in_band-n.ensures.out_after ∙ sym c.collect_in_band-n.ensures.value)
 
 pub returns : goal.returns
 returns c =

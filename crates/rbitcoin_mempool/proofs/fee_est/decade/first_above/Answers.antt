@@ -1,6 +1,5 @@
 -- `fee_est::decade::first_above` meets its contract. Assumes nothing.
-use Rattle.std.proofs.Common.{arith}
-use Rattle.rbitcoin_mempool.proofs.Decade.{above-none, above_all, fine_range, above_ranked}
+use Rattle.rbitcoin_mempool.proofs.Decade.{above-none, above_all, above_ranked}
 use Rattle.rbitcoin_mempool.proofs.fee_est.decade.first_above.Goals as goal
 
 pub returns-then-rate-lt100 : goal.returns-then-rate-lt100
@@ -8,16 +7,6 @@ returns-then-rate-lt100 c = above-none c.args.rate c.if-rate-lt100.true
 
 pub returns-then-rate-ge1000000 : goal.returns-then-rate-ge1000000
 returns-then-rate-ge1000000 c = above_all c.args.rate c.if-rate-ge1000000.true
-
-pub overflow_mul-rate-2 : goal.overflow_mul-rate-2
-overflow_mul-rate-2 c =
-    let r = fine_range c.args.rate c.decade_of-d.result c.decade_of-d.ensures in
-    rw c.half_unit.ensures (record { fits = omega (arith, r.1) })
-
-pub rank-requires : goal.rank-requires
-rank-requires c =
-    let r = fine_range c.args.rate c.decade_of-d.result c.decade_of-d.ensures in
-    rw c.half_unit.ensures (omega (arith, r.0), r.1)
 
 pub returns : goal.returns
 returns c =

@@ -7,8 +7,7 @@ pub loop-i-init : goal.loop-i-init
 loop-i-init c = lower-start _
 
 pub loop-i-preserved : goal.loop-i-preserved
-loop-i-preserved c =
-    lower-step c.args.rates.now c.loop-i.rates c.loop-i.i c.least.result c.loop-i.invariant (omega arith) c.least.ensures
+loop-i-preserved c = lower-step _ _ c.loop-i.i _ c.loop-i.invariant (omega arith) c.min.ensures
 
 pub returns : goal.returns
-returns c = lower_end c.args.rates.now c.loop-i.rates c.loop-i.i c.loop-i.invariant (omega arith)
+returns c = lower_end _ _ c.loop-i.i c.loop-i.invariant (omega arith)

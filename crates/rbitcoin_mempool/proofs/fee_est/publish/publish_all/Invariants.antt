@@ -1,13 +1,12 @@
--- `fee_est::publish::publish_all` meets its contract: the loop keeps `Writing`. Assumes nothing.
-use Rattle.std.proofs.Common.{◌-◌, length}
-use Rattle.rbitcoin_mempool.specs.Rates.{given}
-use Rattle.rbitcoin_mempool.specs.Hold.{args_of, published_at}
+-- `fee_est::publish::publish_all` meets its contract. The loop keeps `Writing`. Assumes nothing.
+use Rattle.std.specs.Prelude.{length}
+use Rattle.rbitcoin_mempool.specs.Hold.{published_at}
+use Rattle.rbitcoin_mempool.specs.Lists.{SameLists, args_in}
 use Rattle.rbitcoin_mempool.proofs.Publishing.{Writing}
 use Rattle.rbitcoin_mempool.proofs.fee_est.publish.publish_all.Given as goal
 
 abbrev pub invariant-loop-i : goal.invariant-loop-i
-invariant-loop-i l =
-    Writing (published_at (args_of l.depths l.projected l.projected_marks l.frontier l.frontier_marks l.history l.history_marks (given l.confirm) l.alpha)) (length l.depths) l.out l.out_marks l.i
-
-abbrev pub decreases-loop-i : goal.decreases-loop-i
-decreases-loop-i l = length l.depths - l.i
+invariant-loop-i l = record {
+  writing : Writing (published_at (args_in l.lists)) (length l.lists.depths.now) l.out.numbers.now l.out.marks.now l.i;
+  same_lists : SameLists l.out l.fn.out;
+}

@@ -21,11 +21,6 @@ offset_bounds-m-i c =
 pub bounds-m-i : goal.bounds-m-i
 bounds-m-i c = rw c.bucket_index-i.ensures (bucket-lt c.args.rate_sat_per_kvb)
 
-pub offset_bounds-m-i-2 : goal.offset_bounds-m-i-2
-offset_bounds-m-i-2 c =
-    let place : c.bucket_index-i.result < 402 = rw c.bucket_index-i.ensures (bucket-lt c.args.rate_sat_per_kvb) in
-    omega arith
-
 pub bounds-m-i-2 : goal.bounds-m-i-2
 bounds-m-i-2 c = rw c.bucket_index-i.ensures (bucket-lt c.args.rate_sat_per_kvb)
 

@@ -14,7 +14,7 @@ zeros-long = length-replicate {A = ℕ} 402 0
 
 pub loop-i-init : goal.loop-i-init
 unfolding zeros
-loop-i-init c = (omega arith, refl)
+loop-i-init c = refl
 
 pub loop-i-preserved : goal.loop-i-preserved
 unfolding whole_rate of_bits of_int
@@ -23,7 +23,7 @@ loop-i-preserved c =
     let h : c.loop-i.i < length xs = omega arith in
     let k : c.loop-i.i < length zeros = omega (arith, zeros-long) in
     let e : c.round_to_u64.result ≡ whole_rate (get_or xs c.loop-i.i nan) = c.round_to_u64.ensures ∙ ap round_to_u64 c.max.ensures in
-    (omega arith, rw (e, c.loop-i.invariant.1) (filled_more whole_rate xs zeros c.loop-i.i h k nan 0))
+    rw (e, c.loop-i.invariant) (filled_more whole_rate xs zeros c.loop-i.i h k nan 0)
 
 pub returns : goal.returns
 unfolding rates
@@ -31,4 +31,4 @@ returns c =
     let xs = c.args.self.admit_wu_s in
     let h : length xs ≤ c.loop-i.i = search rules in
     let k : length zeros ≤ c.loop-i.i = omega (arith, zeros-long) in
-    c.loop-i.invariant.1 ∙ filled_all whole_rate xs zeros c.loop-i.i h k
+    c.loop-i.invariant ∙ filled_all whole_rate xs zeros c.loop-i.i h k

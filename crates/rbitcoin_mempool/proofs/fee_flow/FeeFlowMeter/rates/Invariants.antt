@@ -1,5 +1,5 @@
 -- `fee_flow::FeeFlowMeter::rates` meets its contract. The loop's invariant: the first i rates are whole numbers in the result. Assumes nothing.
-use Rattle.std.proofs.Common.{◌≡◌, ℕ, ◌-◌, ◌≤◌, List, replicate}
+use Rattle.std.proofs.Common.{◌≡◌, ℕ, List, replicate}
 use Rattle.rbitcoin_mempool.specs.Meter.{whole_rate}
 use Rattle.rbitcoin_mempool.proofs.Maps.{filled}
 use Rattle.rbitcoin_mempool.proofs.fee_flow.FeeFlowMeter.rates.Given as goal
@@ -9,7 +9,4 @@ unfoldable pub zeros : List ℕ
 zeros = replicate 402 0
 
 abbrev pub invariant-loop-i : goal.invariant-loop-i
-invariant-loop-i l = (l.i ≤ 402) × (l.rates ≡ filled whole_rate l.m.admit_wu_s zeros l.i)
-
-abbrev pub decreases-loop-i : goal.decreases-loop-i
-decreases-loop-i l = 402 - l.i
+invariant-loop-i l = l.rates ≡ filled whole_rate l.self.admit_wu_s zeros l.i

@@ -3,11 +3,12 @@ use Rattle.rbitcoin_mempool.specs.Windows.{push_back_of}
 use Rattle.rbitcoin_net.proofs.Inserting.{push-stale, push_there, push-missing}
 use Rattle.rbitcoin_net.proofs.fee_history.inserts.push_newest.Goals as goal
 
-pub returns-then-stale : goal.returns-then-stale
-returns-then-stale c = push-stale push_back_of c.args.rate c.args.stale _ c.if-stale.true
+pub returns-then-stale-clause-pushed : goal.returns-then-stale-clause-pushed
+returns-then-stale-clause-pushed c = push-stale push_back_of _ _ _ c.if-stale.true
 
-pub returns-in-There : goal.returns-in-There
-returns-in-There c = push_there push_back_of c.args.rate c.args.stale _ _ _ c.in-There.is c.if-stale.false c.push_back-r.ensures.aheads_after
+pub returns-in-Some-clause-pushed : goal.returns-in-Some-clause-pushed
+returns-in-Some-clause-pushed c =
+    push_there push_back_of _ _ _ _ _ c.in-Some.is c.if-stale.false c.push_back.ensures.after
 
-pub returns-in-Missing : goal.returns-in-Missing
-returns-in-Missing c = push-missing push_back_of c.args.rate c.args.stale _ c.in-Missing.is
+pub returns-in_default-clause-pushed : goal.returns-in_default-clause-pushed
+returns-in_default-clause-pushed c = push-missing push_back_of _ _ _ c.in_default.is

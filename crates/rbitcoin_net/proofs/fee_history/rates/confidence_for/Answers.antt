@@ -9,6 +9,6 @@ pub returns-then-n-le1 : goal.returns-then-n-le1
 unfolding confidence_of of_int of_bits
 returns-then-n-le1 c = sym (rw (le-leb c.args.n 1 c.if-n-le1.true))
 
-pub returns : goal.returns
+pub returns-else-n-le1 : goal.returns-else-n-le1
 unfolding confidence_of of_int of_bits
-returns c = c.historical_confidence_far.ensures ∙ sym (rw (lt-leb c.args.n 1 c.if-n-le1.false))
+returns-else-n-le1 c = c.historical_confidence_far.ensures ∙ sym (rw (lt-leb c.args.n 1 c.if-n-le1.false))

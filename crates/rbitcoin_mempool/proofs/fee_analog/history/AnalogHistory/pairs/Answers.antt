@@ -1,27 +1,27 @@
 -- `fee_analog::history::AnalogHistory::pairs` meets its contract. Assumes nothing.
-use Rattle.std.proofs.Common.{sym, ap, ◌∙◌, arith, ltb-false, ltb-true}
-use Rattle.rbitcoin_mempool.specs.Counted.{counted_of}
-use Rattle.rbitcoin_mempool.specs.Windows.{state_refusal, pair_count}
+use Rattle.std.proofs.Common.{◌≡◌, sym, ◌∙◌, arith, ltb-false, ltb-true}
+use Rattle.rbitcoin_mempool.specs.Pairs.{windows_in}
 use Rattle.rbitcoin_mempool.proofs.Refusals.{sound}
-use Rattle.rbitcoin_mempool.proofs.Scans.{count-refused, count-given, counted_tracked, counted_none}
+use Rattle.rbitcoin_mempool.proofs.Scans.{count-given, counted_passed, counted_tracked, counted_none}
 use Rattle.rbitcoin_mempool.proofs.fee_analog.history.AnalogHistory.pairs.Goals as goal
 
-pub returns-then-refusal-ne0 : goal.returns-then-refusal-ne0
-returns-then-refusal-ne0 c =
-    count-refused c.state_refusal-refusal.result (pair_count c.args.self c.args.n_blocks) c.if-refusal-ne0.true ∙ ap (λ k. counted_of k (pair_count c.args.self c.args.n_blocks)) c.state_refusal-refusal.ensures
+pub returns-in_err-check : goal.returns-in_err-check
+returns-in_err-check c = counted_passed _ _ _ _ c.from_residual.ensures.1 c.in_err-check.ensures
 
 pub tracks-requires : goal.tracks-requires
-tracks-requires c = (sound _ (sym c.state_refusal-refusal.ensures ∙ c.if-refusal-ne0.false)).few
+tracks-requires c = (sound _ (sym c.in_ok-check.ensures)).few
 
-pub pairs_in-requires : goal.pairs_in-requires
-pairs_in-requires c = let s = sound _ (sym c.state_refusal-refusal.ensures ∙ c.if-refusal-ne0.false) in omega arith
+pub count_in-requires : goal.count_in-requires
+count_in-requires c = let s = sound _ (sym c.in_ok-check.ensures) in omega arith
 
 pub returns-then-tracks : goal.returns-then-tracks
+unfolding windows_in
 returns-then-tracks c =
-    count-given (state_refusal c.args.self) (pair_count c.args.self c.args.n_blocks) c.pairs_in.result (sym c.state_refusal-refusal.ensures ∙ c.if-refusal-ne0.false)
-    (c.pairs_in.ensures ∙ counted_tracked c.args.self c.args.n_blocks (ltb-true _ _ (sym c.tracks.ensures ∙ c.if-tracks.true)))
+    let n : c.count_in.result ≡ windows_in c.args.self.now.count c.args.n_blocks = cc in
+    count-given _ _ _ (sym c.in_ok-check.ensures)
+    (n ∙ counted_tracked c.args.self.now c.args.n_blocks (ltb-true _ _ (sym c.tracks.ensures ∙ c.if-tracks.true)))
 
 pub returns : goal.returns
 returns c =
-    count-given (state_refusal c.args.self) (pair_count c.args.self c.args.n_blocks) 0 (sym c.state_refusal-refusal.ensures ∙ c.if-refusal-ne0.false)
-    (counted_none c.args.self c.args.n_blocks (ltb-false _ _ (sym c.tracks.ensures ∙ c.if-tracks.false)))
+    count-given _ _ 0 (sym c.in_ok-check.ensures)
+    (counted_none c.args.self.now c.args.n_blocks (ltb-false _ _ (sym c.tracks.ensures ∙ c.if-tracks.false)))

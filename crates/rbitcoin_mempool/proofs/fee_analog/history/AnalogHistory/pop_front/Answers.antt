@@ -1,41 +1,31 @@
 -- `fee_analog::history::AnalogHistory::pop_front` meets its contract. Assumes nothing.
-use Rattle.std.proofs.Common.{◌≡◌, ◌+◌, sym, ap, ◌∙◌, arith}
-use Rattle.rbitcoin_mempool.specs.Outcome.{verdict_of}
-use Rattle.rbitcoin_mempool.specs.Windows.{state_refusal}
-use Rattle.rbitcoin_mempool.proofs.Refusals.{popped-none, popped-refused, popped-some, refusing, sound}
+use Rattle.std.proofs.Common.{◌+◌, sym, arith}
+use Rattle.rbitcoin_mempool.proofs.Refusals.{popped-none, popped-refused, popped-some, some_number, sound, verdict_done, verdict_passed}
 use Rattle.rbitcoin_mempool.proofs.fee_analog.history.AnalogHistory.pop_front.Goals as goal
 
-pub returns-then-refusal-ne0 : goal.returns-then-refusal-ne0
-returns-then-refusal-ne0 c =
-    let s = c.args.self in
-    let n : state_refusal s ≡ 0 → ⊥ = λ e. c.if-refusal-ne0.true (c.state_refusal-refusal.ensures ∙ e) in
+pub returns-in_err-check : goal.returns-in_err-check
+returns-in_err-check c =
+    let s = c.args.self.now in
     record {
-      outcome_value = refusing c.state_refusal-refusal.result c.if-refusal-ne0.true ∙ ap verdict_of c.state_refusal-refusal.ensures;
-      state_value = popped-refused s (s.start + 1) n;
-    }
-
-pub returns-then-self-eq0 : goal.returns-then-self-eq0
-unfolding verdict_of
-returns-then-self-eq0 c =
-    let s = c.args.self in
-    let z : state_refusal s ≡ 0 = sym c.state_refusal-refusal.ensures ∙ c.if-refusal-ne0.false in
-    record {
-      outcome_value = rw z;
-      state_value = popped-none s (s.start + 1) z c.if-self-eq0.true;
+      refusal = verdict_passed _ _ _ c.from_residual.ensures.1 c.in_err-check.ensures;
+      state = popped-refused s (s.start + 1) (some_number _ _ c.in_err-check.ensures);
     }
 
 pub overflow_add-self : goal.overflow_add-self
-overflow_add-self c =
-    let s = c.args.self in
-    let z = sound s (sym c.state_refusal-refusal.ensures ∙ c.if-refusal-ne0.false) in
-    omega arith
+overflow_add-self c = let v = sound c.args.self.now (sym c.in_ok-check.ensures) in omega arith
 
-pub returns : goal.returns
-unfolding verdict_of
-returns c =
-    let s = c.args.self in
-    let z : state_refusal s ≡ 0 = sym c.state_refusal-refusal.ensures ∙ c.if-refusal-ne0.false in
+pub returns-then-self-gt0 : goal.returns-then-self-gt0
+returns-then-self-gt0 c =
+    let s = c.args.self.now in
     record {
-      outcome_value = rw z;
-      state_value = c.placed.ensures ∙ popped-some s (s.start + 1) z c.if-self-eq0.false;
+      refusal = verdict_done _ c.in_ok-check.ensures;
+      state = popped-some s (s.start + 1) (sym c.in_ok-check.ensures) (λ e. omega arith);
+    }
+
+pub returns-else-self-gt0 : goal.returns-else-self-gt0
+returns-else-self-gt0 c =
+    let s = c.args.self.now in
+    record {
+      refusal = verdict_done _ c.in_ok-check.ensures;
+      state = popped-none s (s.start + 1) (sym c.in_ok-check.ensures) (omega arith);
     }

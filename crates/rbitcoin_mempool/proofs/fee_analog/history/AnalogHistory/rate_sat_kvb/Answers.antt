@@ -1,82 +1,81 @@
 -- `fee_analog::history::AnalogHistory::rate_sat_kvb` meets its contract. Assumes nothing.
-use Rattle.std.proofs.Common.{ℕ, ◌<◌, sym, refl, ap, ◌∙◌, arith}
+use Rattle.std.proofs.Common.{◌≡◌, ℕ, length, sym, ap, ◌∙◌, arith}
 use borrow.Author.Tests.{not-true, not-false}
-use Rattle.rbitcoin_mempool.specs.Answer.{rate}
-use Rattle.rbitcoin_mempool.specs.Nearest.{neighbors}
-use Rattle.rbitcoin_mempool.specs.Quantile.{quantile_of}
-use Rattle.rbitcoin_mempool.specs.Windows.{windows, find_target, target_at, held_in, stored_pairs}
-use Rattle.rbitcoin_mempool.specs.Scan.{now_of, rate_in, rate_sat_kvb, answer_after}
-use Rattle.rbitcoin_mempool.proofs.Refusals.{scan-accepted}
-use Rattle.rbitcoin_mempool.proofs.Scans.{tracked-windows, rate_untracked, rate-few, rate_unsure, rate-found, answer-refused, answer-given}
 use Rattle.std.proofs.lemmas.Bool.{not_from_true, not_from_false}
+use Rattle.rbitcoin_mempool.specs.Answer.{rate}
+use Rattle.rbitcoin_mempool.specs.Memory.{windows_seen}
+use Rattle.rbitcoin_mempool.specs.Nearest.{neighbors}
+use Rattle.rbitcoin_mempool.specs.Pairs.{windows_in}
+use Rattle.rbitcoin_mempool.specs.Quantile.{quantile_of}
+use Rattle.rbitcoin_mempool.specs.Scan.{now_of, rate_in, rate_sat_kvb, scan_refusal}
+use Rattle.rbitcoin_mempool.specs.Windows.{held_in, stored_pairs, target_at}
+use Rattle.rbitcoin_mempool.proofs.Refusals.{scan-accepted}
+use Rattle.rbitcoin_mempool.proofs.Scans.{answer-given, answer-passed, rate-few, rate-found, rate_unsure, rate_untracked, scan-sized, tracked-windows}
+use Rattle.rbitcoin_mempool.proofs.Targets.{found_at, found_none}
 use Rattle.rbitcoin_mempool.proofs.fee_analog.history.AnalogHistory.rate_sat_kvb.Goals as goal
+use Rattle.rbitcoin_mempool.proofs.fee_analog.history.AnalogHistory.rate_sat_kvb.Goals.{In_ok-check_scan, After-count_in-pairs, then-pairs-lt-ANALOG_READY_PAIRS-via-then-pairs-lt-ANALOG_READY_PAIRS, then-pairs-lt-ANALOG_READY_PAIRS-via-else-pairs-lt-ANALOG_READY_PAIRS+then-not-in_unit}
 
-pub returns-then-refusal-ne0 : goal.returns-then-refusal-ne0
+-- nothing is refused
+taken : (c : In_ok-check_scan) → scan_refusal c.args.self.now (length c.args.lists.hurdles.now) (length c.args.lists.befores.now) (length c.args.lists.aheads.now) (length c.args.scratch.now) ≡ 0
+taken c = sym (c.in_ok-check_scan.ensures ∙ scan-sized c.args.self.now c.args.lists (length c.args.scratch.now) _ c.sizes.ensures)
+
+counted : (c : After-count_in-pairs) → c.count_in-pairs.result ≡ windows_in c.args.self.now.count c.args.n_blocks
+unfolding windows_in
+counted c = rw (← c.of.ensures.lookback, ← c.of.ensures.ahead) c.count_in-pairs.ensures
+
+pub returns-in_err-check_scan-clause-rate : goal.returns-in_err-check_scan-clause-rate
 unfolding rate_sat_kvb
-returns-then-refusal-ne0 c =
-    let w = windows c.args.self c.args.hurdles.now c.args.befores.now c.args.aheads.now in
-    record {
-      result_value = answer-refused c.scan_refusal-refusal.result (rate_in w c.args.n_blocks c.args.confidence) c.if-refusal-ne0.true ∙ ap (λ k. answer_after k (rate_in w c.args.n_blocks c.args.confidence)) c.scan_refusal-refusal.ensures;
-      scratch_after = refl;
-    }
+returns-in_err-check_scan-clause-rate c =
+    answer-passed _ _ _ (rate_in (windows_seen c.args.self.now c.args.lists) c.args.n_blocks c.args.confidence) c.from_residual.ensures.1
+    (c.in_err-check_scan.ensures ∙ scan-sized c.args.self.now c.args.lists (length c.args.scratch.now) _ c.sizes.ensures)
 
-pub find_target-d-requires : goal.find_target-d-requires
-find_target-d-requires c = let v = scan-accepted _ _ _ _ _ (sym c.scan_refusal-refusal.ensures ∙ c.if-refusal-ne0.false) in v.0.few
+pub find_target-requires : goal.find_target-requires
+find_target-requires c = let v = scan-accepted _ _ _ _ _ (taken c) in v.0.few
 
-pub returns-then-d-self : goal.returns-then-d-self
+pub returns-in_default-clause-rate : goal.returns-in_default-clause-rate
 unfolding rate_sat_kvb
-returns-then-d-self c =
-    let w = windows c.args.self c.args.hurdles.now c.args.befores.now c.args.aheads.now in
-    let z = sym c.scan_refusal-refusal.ensures ∙ c.if-refusal-ne0.false in
-    record {
-      result_value = rate_untracked w c.args.n_blocks c.args.confidence (omega (arith, c.find_target-d.ensures, c.if-d-self.true)) ∙ answer-given _ _ z;
-      scratch_after = refl;
-    }
+returns-in_default-clause-rate c =
+    let z = taken (goal.at.returns-in_default-clause-rate c).In_ok-check_scan in
+    rate_untracked (windows_seen c.args.self.now c.args.lists) c.args.n_blocks c.args.confidence (found_none _ _ c.in_default.ensures) ∙ answer-given _ _ z
 
-pub pairs_in-requires : goal.pairs_in-requires
-pairs_in-requires c = let v = (scan-accepted _ _ _ _ _ (sym c.scan_refusal-refusal.ensures ∙ c.if-refusal-ne0.false)).0 in omega arith
+pub count_in-pairs-requires : goal.count_in-pairs-requires
+count_in-pairs-requires c =
+    let v = (scan-accepted _ _ _ _ _ (taken (goal.at.count_in-pairs-requires c).In_ok-check_scan)).0 in omega arith
 
-pub returns-then-pairs_in-lt-ANALOG_READY_PAIRS : goal.returns-then-pairs_in-lt-ANALOG_READY_PAIRS
+pub returns-then-pairs-lt-ANALOG_READY_PAIRS-clause-rate : goal.returns-then-pairs-lt-ANALOG_READY_PAIRS-clause-rate
 unfolding rate_sat_kvb
-returns-then-pairs_in-lt-ANALOG_READY_PAIRS c =
-    let w = windows c.args.self c.args.hurdles.now c.args.befores.now c.args.aheads.now in
-    let z = sym c.scan_refusal-refusal.ensures ∙ c.if-refusal-ne0.false in
-    record {
-      result_value = rate-few w c.args.n_blocks c.args.confidence (omega (arith, c.find_target-d.ensures, c.if-d-self.false)) (omega (arith, c.pairs_in.ensures, c.if-pairs_in-lt-ANALOG_READY_PAIRS.true)) ∙ answer-given _ _ z;
-      scratch_after = refl;
-    }
+returns-then-pairs-lt-ANALOG_READY_PAIRS-clause-rate c =
+    let a = goal.at.returns-then-pairs-lt-ANALOG_READY_PAIRS-clause-rate c in
+    let w = windows_seen c.args.self.now c.args.lists in
+    let found = found_at c.args.self.now c.args.n_blocks _ c.in-Some.ensures in
+    let n = counted a.After-count_in-pairs in
+    elim c.then-pairs-lt-ANALOG_READY_PAIRS.branch [
+      | then-pairs-lt-ANALOG_READY_PAIRS-via-then-pairs-lt-ANALOG_READY_PAIRS v ↦ rate-few w c.args.n_blocks c.args.confidence found.1 (omega arith)
+      | then-pairs-lt-ANALOG_READY_PAIRS-via-else-pairs-lt-ANALOG_READY_PAIRS+then-not-in_unit v ↦ rate_unsure w c.args.n_blocks c.args.confidence found.1 (sym v.in_unit.ensures ∙ not-true _ (not_from_false _ v.if-not-in_unit.true))
+    ]
+    ∙ answer-given _ _ (taken a.In_ok-check_scan)
 
-pub returns-then-not-in_unit : goal.returns-then-not-in_unit
-unfolding rate_sat_kvb
-returns-then-not-in_unit c =
-    let w = windows c.args.self c.args.hurdles.now c.args.befores.now c.args.aheads.now in
-    let z = sym c.scan_refusal-refusal.ensures ∙ c.if-refusal-ne0.false in
-    record {
-      result_value = rate_unsure w c.args.n_blocks c.args.confidence (omega (arith, c.find_target-d.ensures, c.if-d-self.false)) (sym c.in_unit.ensures ∙ not-true _ (not_from_false _ c.if-not-in_unit.true)) ∙ answer-given _ _ z;
-      scratch_after = refl;
-    }
-
-pub scan-rate-requires : goal.scan-rate-requires
-scan-rate-requires c =
-    let w = windows c.args.self c.args.hurdles.now c.args.befores.now c.args.aheads.now in
-    let v = scan-accepted _ _ _ _ _ (sym c.scan_refusal-refusal.ensures ∙ c.if-refusal-ne0.false) in
-    let h : find_target c.args.self c.args.n_blocks < c.args.self.tracked = omega (arith, c.find_target-d.ensures, c.if-d-self.false) in
+pub scan-requires : goal.scan-requires
+scan-requires c =
+    let a = goal.at.scan-requires c in
+    let v = scan-accepted _ _ _ _ _ (taken a.In_ok-check_scan) in
+    let found = found_at c.args.self.now c.args.n_blocks _ c.in-Some.ensures in
+    let n = counted a.After-count_in-pairs in
     record {
       d_lt_tracked = omega arith;
-      bound = rw (c.find_target-d.ensures, tracked-windows c.args.self c.args.n_blocks h c.args.self.count) (omega (arith, c.pairs_in.ensures, c.if-pairs_in-lt-ANALOG_READY_PAIRS.false));
+      bound = rw (← found.0, tracked-windows c.args.self.now c.args.n_blocks found.1 c.args.self.now.count) (omega arith);
       capacity_in_bounds = v.1;
       valid = v.0;
     }
 
-pub returns : goal.returns
+pub returns-clause-rate : goal.returns-clause-rate
 unfolding rate_sat_kvb
-returns c =
-    let w = windows c.args.self c.args.hurdles.now c.args.befores.now c.args.aheads.now in
-    let z = sym c.scan_refusal-refusal.ensures ∙ c.if-refusal-ne0.false in
-    let at : ℕ → ℕ = λ d. quantile_of (neighbors (now_of (held_in w) (target_at c.args.self d)) (stored_pairs w d)) c.args.confidence in
-    record {
-      result_value = ap rate (c.scan-rate.ensures ∙ ap at c.find_target-d.ensures)
-          ∙ rate-found w c.args.n_blocks c.args.confidence (omega (arith, c.find_target-d.ensures, c.if-d-self.false)) (omega (arith, c.pairs_in.ensures, c.if-pairs_in-lt-ANALOG_READY_PAIRS.false)) (sym c.in_unit.ensures ∙ not-false _ (not_from_true _ c.if-not-in_unit.false))
-          ∙ answer-given _ _ z;
-      scratch_after = c.scan-rate.auto.scratch;
-    }
+returns-clause-rate c =
+    let a = goal.at.returns-clause-rate c in
+    let w = windows_seen c.args.self.now c.args.lists in
+    let found = found_at c.args.self.now c.args.n_blocks _ c.in-Some.ensures in
+    let n = counted a.After-count_in-pairs in
+    let at : ℕ → ℕ = λ d. quantile_of (neighbors (now_of (held_in w) (target_at c.args.self.now d)) (stored_pairs w d)) c.args.confidence in
+    ap rate (c.scan.ensures ∙ ap at (sym found.0))
+    ∙ rate-found w c.args.n_blocks c.args.confidence found.1 (omega arith) (sym c.in_unit.ensures ∙ not-false _ (not_from_true _ c.if-not-in_unit.false))
+    ∙ answer-given _ _ (taken a.In_ok-check_scan)

@@ -1,5 +1,0 @@
--- `fee_est::capacity::lesser_rate` meets its contract. Assumes nothing.
-use Rattle.rbitcoin_mempool.proofs.fee_est.capacity.lesser_rate.Goals as goal
-
-pub returns-then-found : goal.returns-then-found
-returns-then-found c = rw c.if-found.true c.least.ensures
