@@ -16,27 +16,18 @@ fn put_list<W: Write>(to: &mut W, list: &[u64]) -> io::Result<()> {
     put::newline(to)
 }
 
-fn put_rate<W: Write>(to: &mut W, answer: Result<Rate, Refusal>) -> io::Result<()> {
-    match answer {
-        Ok(Some(rate)) => put::fields(to, 0, 1, rate)?,
-        Ok(None) => put::fields(to, 0, 0, 0)?,
-        Err(refusal) => put::fields(to, u64::from(u8::from(refusal)), 0, 0)?,
-    }
-    put::newline(to)
-}
-
 fn min_rate(mut words: Words) -> Result<Rate, Refusal> {
-    let n = words.u32();
+    let n = words.next();
     fee_est::min_rate_for_capacity(words.list(), words.list(), words.list(), n)
 }
 
 fn suffix(mut words: Words) -> [u64; 403] {
-    let horizon = words.u64();
+    let horizon = words.next();
     fee_est::inflow_suffix_wu(words.list(), horizon)
 }
 
-fn percentile(mut words: Words) -> Result<Rate, Refusal> {
-    let pct = words.u8();
+fn percentile(mut words: Words) -> Rate {
+    let pct = words.next();
     fee_est::percentile_sat(words.list(), pct)
 }
 
@@ -47,16 +38,16 @@ fn answer<W: Write>(to: &mut W, question: Question) -> io::Result<()> {
         b"flow_bucket_edges" => put_list(to, &fee_est::flow_bucket_edges()),
         b"default_candidate_rates" => put_list(to, &fee_est::default_candidate_rates()),
         b"fine_candidate_rates" => put_list(to, &fee_est::fine_candidate_rates()),
-        b"bucket_index" => put::only(to, fee_est::bucket_index(words.u64()) as u64),
-        b"first_bucket_above" => put::only(to, fee_est::first_bucket_above(words.u64()) as u64),
-        b"capacity_wu" => put::only(to, fee_est::capacity_wu(words.u32())),
-        b"horizon_secs" => put::only(to, fee_est::horizon_secs(words.u32())),
-        b"inflow_horizon_secs" => put::only(to, fee_est::inflow_horizon_secs(words.u32())),
-        b"effective_capacity_wu" => put::only(to, fee_est::effective_capacity_wu(words.u32())),
-        b"inclusion_confidence" => put::float(to, fee_est::inclusion_confidence(words.u32())),
+        b"bucket_index" => put::only(to, fee_est::bucket_index(words.next()) as u64),
+        b"first_bucket_above" => put::only(to, fee_est::first_bucket_above(words.next()) as u64),
+        b"capacity_wu" => put::only(to, fee_est::capacity_wu(words.next())),
+        b"horizon_secs" => put::only(to, fee_est::horizon_secs(words.next())),
+        b"inflow_horizon_secs" => put::only(to, fee_est::inflow_horizon_secs(words.next())),
+        b"effective_capacity_wu" => put::only(to, fee_est::effective_capacity_wu(words.next())),
+        b"inclusion_confidence" => put::float(to, fee_est::inclusion_confidence(words.next())),
         b"inflow_suffix_wu" => put_list(to, &suffix(words)),
-        b"min_rate_for_capacity" => put_rate(to, min_rate(words)),
-        b"percentile_sat" => put_rate(to, percentile(words)),
+        b"min_rate_for_capacity" => put::only_rate(to, min_rate(words)),
+        b"percentile_sat" => put::only_rate::<_, Refusal>(to, Ok(percentile(words))),
         _ => put::unknown(to),
     }
 }

@@ -1,4 +1,4 @@
-// The functions of edges and capacity.
+// The functions of edges and capacity. C lends each list by itself.
 ghost use Rattle.std.specs.Prelude.{◌≡◌};
 ghost use Rattle.rbitcoin_mempool.specs.Edges.{flow_bucket_edges, bucket_index, first_bucket_above};
 ghost use Rattle.rbitcoin_mempool.specs.Capacity.{capacity_wu, horizon_secs, inflow_horizon_secs, inclusion_confidence};
@@ -110,5 +110,5 @@ pub extern "C" fn juleyomu_min_rate_for_capacity(
 pub extern "C" fn juleyomu_percentile_sat(v: &[u64], pct: u8) -> RateFields
     ensures { Fields (percentile_sat v.now pct) result.refusal result.mark result.rate }
 {
-    fee_est::percentile_sat(v, pct).into()
+    Ok(fee_est::percentile_sat(v, pct)).into()
 }

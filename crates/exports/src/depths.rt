@@ -1,4 +1,4 @@
-// The functions of depth rates and targets.
+// The functions of depth rates and targets. C lends numbers and marks as lists of their own.
 ghost use Rattle.std.specs.Prelude.{◌≡◌, length};
 ghost use Rattle.rbitcoin_mempool.specs.Rates.{given, number_of};
 ghost use Rattle.rbitcoin_mempool.specs.Depths.{blend_weight, flow_for_depth, blend_sat_kvb, warmup_blend};
@@ -14,8 +14,8 @@ use rbitcoin_mempool::answer::Rate;
 use rbitcoin_mempool::fee_est;
 use rbitcoin_mempool::fee_est::{DepthLists, Marked, MarkedMut};
 
-// A rate that may be missing: the mark 1 and its number where it is there. As an argument it is
-// missing under any other mark; as a result it is then 0 and 0.
+// A rate that may be missing, for C, which has no Option: the mark 1 and its number where it is there. As an
+// argument it is missing under any other mark; as a result it is then 0 and 0.
 #[repr(C)]
 #[derive(Clone, Copy)]
 pub struct MarkedRate {
@@ -27,7 +27,7 @@ impl From<MarkedRate> for Rate {
     ghost from_gives = { λ m rate. given rate ≡ rate_in m };
 
     fn from(m: MarkedRate) -> Rate {
-        if m.mark == 1 { Some(m.rate) } else { None }
+        (m.mark == 1).then_some(m.rate)
     }
 }
 

@@ -1,7 +1,8 @@
-// The functions of the held blocks. The state passes by value, and so do a block and a hash.
+// The functions of the held blocks. The state passes by value, and so do a block and a hash. C has no Option and no
+// Result: in its structs a mark or a flag says whether something is there, and a number what was refused.
 ghost use Rattle.std.specs.Prelude.{◌≡◌};
 ghost use Rattle.rbitcoin_mempool.specs.Counted.{counted_of};
-ghost use Rattle.rbitcoin_mempool.specs.Outcome.{verdict, verdict_number, verdict_of};
+ghost use Rattle.rbitcoin_mempool.specs.Outcome.{verdict, verdict_of};
 ghost use Rattle.rbitcoin_mempool.specs.Rates.{given, mark_of, number_of};
 ghost use Rattle.rbitcoin_net.specs.Cuts.{Truncates};
 ghost use Rattle.rbitcoin_net.specs.Hashes.{hash_of};
@@ -18,6 +19,7 @@ use crate::rate::refusal_number;
 use crate::windows::{CountFields, answered, one_by_one};
 use rbitcoin_mempool::answer::Refusal;
 use rbitcoin_mempool::fee_analog::{WindowLists, WindowMemory};
+use rbitcoin_mempool::fee_est::MarkedMut;
 use rbitcoin_net::fee_history;
 use rbitcoin_net::fee_history::{
     FeeHistory, HashLists, HashMemory, HistoricalFeeBlock, RowLists, RowMemory,
@@ -109,7 +111,8 @@ const NO_BLOCK: MarkedBlock = MarkedBlock {
 };
 
 impl From<Result<Option<HistoricalFeeBlock>, Refusal>> for BlockFields {
-    ghost from_gives = { λ a fields. let b = fields.block in BlockIs (looked a) fields.refusal fields.held b.mark b.rate b.bytes };
+    ghost from_gives = { λ a fields. let b = fields.block in
+        BlockIs (looked a) fields.refusal fields.held b.mark b.rate b.bytes };
 
     fn from(a: Result<Option<HistoricalFeeBlock>, Refusal>) -> BlockFields {
         match a {
@@ -132,7 +135,7 @@ impl From<Result<Option<HistoricalFeeBlock>, Refusal>> for BlockFields {
     }
 }
 
-// The same state for an answer, as `answered` has the windows'.
+// The same state for an answer, field by field, for the reason at `answered`.
 fn answered_history(s: FeeHistory) -> FeeHistory
     ensures { result ≡ s }
 {
@@ -153,8 +156,10 @@ fn answered_history(s: FeeHistory) -> FeeHistory
     }
 }
 
+// An answer, with the state by `answered_history`.
+#[tactic(auto, using(crate::proofs::Verdicts::verdict_back))]
 fn history_fields(outcome: Result<(), Refusal>, s: FeeHistory) -> HistoryFields
-    ensures refusal { result.refusal ≡ verdict_number (verdict outcome) }
+    ensures refusal { verdict_of result.refusal ≡ verdict outcome }
     ensures state { result.state ≡ s }
 {
     HistoryFields {
@@ -383,8 +388,12 @@ pub extern "C" fn juleyomu_history_rates<'a>(
         befores,
         aheads,
     };
+    let mut out = MarkedMut {
+        numbers: out_numbers,
+        marks: out_marks,
+    };
     let mut s = state;
-    let outcome = s.rates(rows, &mut windows, scratch, out_numbers, out_marks);
+    let outcome = s.rates(rows, &mut windows, scratch, &mut out);
     history_fields(outcome, s)
 }
 

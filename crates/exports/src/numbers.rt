@@ -1,4 +1,4 @@
-// The functions of the crate `num`.
+// The functions of the crate `num`, with the arguments that C passes.
 ghost use Rattle.std.specs.Prelude.{◌≡◌, ◌*◌, false, negsuc};
 ghost use Rattle.num.specs.Float.{of_u64, to_u64, is_finite, max_of, clamp_of, floor_of, ceil_of};
 ghost use Rattle.num.specs.Round.{round_to_u64};

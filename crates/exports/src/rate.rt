@@ -6,7 +6,8 @@ ghost use Rattle.exports.specs.Fields.{Fields};
 
 use rbitcoin_mempool::answer::{Rate, Refusal};
 
-// The number of a refusal or 0; 1 where a rate is there and 0 where it is missing; the rate or 0.
+// The number of a refusal or 0; 1 where a rate is there and 0 where it is missing; the rate or 0. Numbers and a mark,
+// as C has no Result and no Option.
 #[repr(C)]
 #[derive(Clone, Copy)]
 pub struct RateFields {
@@ -15,14 +16,11 @@ pub struct RateFields {
     pub rate: u64,
 }
 
-// The number of a refusal or 0.
+// The number of a refusal or 0, as C gets it.
 pub(crate) fn refusal_number(outcome: Result<(), Refusal>) -> u8
     ensures { result ≡ verdict_number (verdict outcome) }
 {
-    match outcome {
-        Ok(()) => 0,
-        Err(refusal) => refusal.into(),
-    }
+    outcome.err().map_or(0, u8::from)
 }
 
 impl From<Result<Rate, Refusal>> for RateFields {
@@ -53,17 +51,6 @@ impl From<Result<u64, Refusal>> for RateFields {
     ghost from_gives = { λ a fields. Fields (found a) fields.refusal fields.mark fields.rate };
 
     fn from(a: Result<u64, Refusal>) -> RateFields {
-        match a {
-            Ok(rate) => RateFields {
-                refusal: 0,
-                mark: 1,
-                rate,
-            },
-            Err(refusal) => RateFields {
-                refusal: refusal.into(),
-                mark: 0,
-                rate: 0,
-            },
-        }
+        a.map(Some).into()
     }
 }

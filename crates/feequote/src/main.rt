@@ -79,7 +79,8 @@ fn print<O: Write>(output: &mut O, text: &[u8]) -> io::Result<()>
 // Reads the input and prints what `feequote` answers to it.
 fn run<I: Read, O: Write>(input: &mut I, output: &mut O) -> Result<(), Failure>
     ensures ok { OnOk result (Quoted (I.remaining input.old) (O.contents output.old) (O.contents output.new)) }
-    ensures unread { IfErr result (λ e. e ≡ Failure.Unread → Keeps (O.contents output.old) (O.contents output.new)) }
+    ensures unread { IfErr result
+        (λ e. e ≡ Failure.Unread → Keeps (O.contents output.old) (O.contents output.new)) }
 {
     let text = quote(input)?;
     print(output, &text).map_err(|_| Failure::Unwritten)

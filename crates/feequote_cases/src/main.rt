@@ -14,7 +14,7 @@ fn answer(rt: &impl Print, input: &[u8]) -> io::Result<()> {
     close(rt, &quote_board::quote(input))
 }
 
-// An input that comes in parts, the middle one many times.
+// An input that comes in parts, the middle one many times. The parts are no lists beside one another.
 fn in_parts(
     rt: &impl Print,
     start: &[u8],

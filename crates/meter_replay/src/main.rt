@@ -29,10 +29,10 @@ fn put_meter<W: Write>(to: &mut W, m: FeeFlowMeter) -> io::Result<()> {
 
 // A read or an admission.
 fn called(m: FeeFlowMeter, words: &mut Words) -> FeeFlowMeter {
-    let kind = words.u64();
-    let weight = words.u64();
-    let rate = words.u64();
-    let clock = words.u64();
+    let kind = words.next::<u64>();
+    let weight = words.next();
+    let rate = words.next();
+    let clock = words.next();
     match kind {
         0 | 1 => m.decay_to(clock),
         _ => m.admit(weight, rate, clock),
@@ -41,7 +41,7 @@ fn called(m: FeeFlowMeter, words: &mut Words) -> FeeFlowMeter {
 
 // The clock, the number of calls, and the calls.
 fn replay(mut words: Words) -> FeeFlowMeter {
-    let mut m = FeeFlowMeter::new(words.u64());
+    let mut m = FeeFlowMeter::new(words.next());
     for _ in 0..words.count() {
         m = called(m, &mut words);
     }

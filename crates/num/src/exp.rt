@@ -23,7 +23,7 @@ fn series(r: f64) -> f64
     t
 }
 
-// 2^size, or 2^-size where `negative` is true.
+// 2^size, or 2^-size where `negative` is true: sign and size apart, as the definition has them.
 fn power(negative: bool, size: u64) -> f64
     requires { size ≤ (if negative then 1022 else 1023) }
     ensures { result ≡ power negative size }

@@ -38,7 +38,7 @@ pub fn to_u64(x: f64) -> u64
 }
 
 // Rust's `x.round() as u64`: a half goes away from zero, and what is out of range to the nearest end.
-// Below 2^52 twice x is exact, and its whole part has the digit after x's point.
+// Below 2^52 twice x is exact, and its whole part has the digit after x's point. The kit's `round` took longer.
 pub fn round_to_u64(x: f64) -> u64
     ensures { result ≡ round_to_u64 x }
 {
@@ -72,7 +72,7 @@ pub fn clamp(x: f64, lo: f64, hi: f64) -> f64
     if hi < above { hi } else { above }
 }
 
-// Rust's `x.floor()`.
+// Rust's `x.floor()`. The kit's took longer.
 pub fn floor(x: f64) -> f64
     ensures { result ≡ floor_of x }
 {
@@ -88,7 +88,7 @@ pub fn floor(x: f64) -> f64
     x
 }
 
-// Rust's `x.ceil()`.
+// Rust's `x.ceil()`. The kit's took longer.
 #[tactic(auto, using(crate::proofs::Floors::ceil_floor))]
 pub fn ceil(x: f64) -> f64
     ensures { result ≡ ceil_of x }

@@ -26,7 +26,7 @@ const RECIPROCALS: [f64; 10] = [
 ];
 
 // The significand of x, from 1 to below 2: x's digits with the exponent field of 1.0. Where `halve` is true it is
-// halved: the field is that of 0.5.
+// halved: the field is that of 0.5. The flag chooses a constant and no step.
 fn significand(x: f64, halve: bool) -> f64
     requires { T (from_one x) }
     ensures { result ≡ (if halve then mul binary64 (significand_of x) half else significand_of x) }

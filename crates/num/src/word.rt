@@ -1,4 +1,5 @@
-// Rust's saturating arithmetic, `min` and `max` of `u64`, for all arguments.
+// Rust's saturating arithmetic, `min` and `max` of `u64`, for all arguments, by the names under which C and the replay
+// program call them.
 ghost use Rattle.std.specs.Prelude.{◌≡◌};
 ghost use Rattle.num.specs.Word.{saturating_add, saturating_sub, saturating_mul, least, greatest};
 

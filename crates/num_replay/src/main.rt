@@ -11,8 +11,8 @@ use std::io::Write;
 
 fn wide(words: &mut Words) -> Wide {
     Wide {
-        hi: words.u64(),
-        lo: words.u64(),
+        hi: words.next(),
+        lo: words.next(),
     }
 }
 
@@ -33,16 +33,16 @@ fn put_division<W: Write>(to: &mut W, d: WideDivision) -> io::Result<()> {
 fn answer<W: Write>(to: &mut W, question: Question) -> io::Result<()> {
     let mut words = question.words;
     match question.name {
-        b"saturating_add" => put::only(to, num::word::saturating_add(words.u64(), words.u64())),
-        b"saturating_sub" => put::only(to, num::word::saturating_sub(words.u64(), words.u64())),
-        b"saturating_mul" => put::only(to, num::word::saturating_mul(words.u64(), words.u64())),
-        b"least" => put::only(to, num::word::least(words.u64(), words.u64())),
-        b"greatest" => put::only(to, num::word::greatest(words.u64(), words.u64())),
-        b"wide_product" => put_wide(to, num::wide::wide_product(words.u64(), words.u64())),
+        b"saturating_add" => put::only(to, num::word::saturating_add(words.next(), words.next())),
+        b"saturating_sub" => put::only(to, num::word::saturating_sub(words.next(), words.next())),
+        b"saturating_mul" => put::only(to, num::word::saturating_mul(words.next(), words.next())),
+        b"least" => put::only(to, num::word::least(words.next(), words.next())),
+        b"greatest" => put::only(to, num::word::greatest(words.next(), words.next())),
+        b"wide_product" => put_wide(to, num::wide::wide_product(words.next(), words.next())),
         b"wide_sum" => put_wide(to, num::wide::wide_sum(wide(&mut words), wide(&mut words))),
-        b"wide_divide" => put_division(to, num::wide::wide_divide(wide(&mut words), words.u64())),
-        b"f64_from_u64" => put::float(to, num::float::from_u64(words.u64())),
-        b"ln" => put::float(to, num::ln::ln(words.u64())),
+        b"wide_divide" => put_division(to, num::wide::wide_divide(wide(&mut words), words.next())),
+        b"f64_from_u64" => put::float(to, num::float::from_u64(words.next())),
+        b"ln" => put::float(to, num::ln::ln(words.next())),
         b"ln_1_25" => put::float(to, num::ln::ln_1_25()),
         b"f64_to_u64" => put::only(to, num::float::to_u64(words.f64())),
         b"round_to_u64" => put::only(to, num::float::round_to_u64(words.f64())),

@@ -12,7 +12,7 @@ use lib.Seq.{take-suc}
 use borrow.Author.Tests.{lt-ltb, le-ltb}
 use Rattle.io.specs.Digits.{last_digits, IsDigitCount}
 use Rattle.slices.specs.Search.{seek}
-use Rattle.slices.proofs.Search.{seek_is, sought}
+use Rattle.slices.proofs.Seeking.{seek_is, sought}
 use Rattle.quote_board.specs.Text.{width, decimal, quote_lines, quote_line}
 
 -- ---- digits
@@ -55,12 +55,15 @@ module _ (ds rs ms : List ℕ) where
   unfolding quote_lines
   quotes-one t = append-nil (quote_line ds rs ms t)
 
-  pub quotes_none : quote_lines ds rs ms [] ≡ []
+  -- behind a text: none, and one more
+  pub quotes_none : (out ts : List ℕ) → out ++ quote_lines ds rs ms (take 0 ts) ≡ out
   unfolding quote_lines
-  quotes_none = refl
+  quotes_none out ts = append-nil out
 
-  pub quotes_more : (ts : List ℕ) (i : ℕ) → i < length ts → quote_lines ds rs ms (take i ts) ++ quote_line ds rs ms (get_or ts i 0) ≡ quote_lines ds rs ms (take (i + 1) ts)
-  quotes_more ts i h =
-      ap (λ (x : List ℕ). quote_lines ds rs ms (take i ts) ++ x) (sym (quotes-one (get_or ts i 0)))
-      ∙ sym (quotes_append (take i ts) (get_or ts i 0 ∷ []))
-      ∙ ap (quote_lines ds rs ms) (sym (take-suc ts i 0 h) ∙ ap (λ (k : ℕ). take k ts) (sym (add-one i)))
+  pub quotes_more : (out ts : List ℕ) (i : ℕ) → i < length ts
+      → (out ++ quote_lines ds rs ms (take i ts)) ++ quote_line ds rs ms (get_or ts i 0) ≡ out ++ quote_lines ds rs ms (take (i + 1) ts)
+  quotes_more out ts i h =
+      append_assoc out (quote_lines ds rs ms (take i ts)) (quote_line ds rs ms (get_or ts i 0))
+      ∙ ap (λ (x : List ℕ). out ++ (quote_lines ds rs ms (take i ts) ++ x)) (sym (quotes-one (get_or ts i 0)))
+      ∙ ap (λ (x : List ℕ). out ++ x) (sym (quotes_append (take i ts) (get_or ts i 0 ∷ [])))
+      ∙ ap (λ (x : List ℕ). out ++ quote_lines ds rs ms x) (sym (take-suc ts i 0 h) ∙ ap (λ (k : ℕ). take k ts) (sym (add-one i)))

@@ -71,23 +71,18 @@ fn put_quote(out: &mut Text, board: &Board, target: u32)
     put(out, b"\n");
 }
 
-// The hold pass. A board's numbers and marks are of one length, and each mark is 0 or 1.
-fn hold(numbers: &mut [u64], marks: &mut [u8])
-    ensures numbers { numbers.new ≡ held_numbers numbers.old marks.old }
-    ensures marks { marks.new ≡ held_marks numbers.old marks.old }
-{
-    let _ = hold_defined_then_monotone(&mut MarkedMut { numbers, marks });
-}
-
-// The board after the hold pass.
+// The board after the hold pass. A board's numbers and marks are of one length, and each mark is 0 or 1.
 fn held(mut board: Board) -> Board
     ensures { result ≡ held board }
 {
-    hold(&mut board.rates, &mut board.marks);
+    let numbers = board.rates.as_mut_slice();
+    let marks = board.marks.as_mut_slice();
+    let _ = hold_defined_then_monotone(&mut MarkedMut { numbers, marks });
     board
 }
 
 // The lines of the targets, of which a board has at most 64.
+#[tactic(auto, using(crate::proofs::Writing::quotes_none, crate::proofs::Writing::quotes_more))]
 fn put_quotes(out: &mut Text, board: &Board)
     requires { array_vec_len out.old + 42 * 64 ≤ 4096 }
     ensures { out.new.items ≡ out.old.items

@@ -38,14 +38,6 @@ kind_of (Number n) = Bad
 kind_of Other = Bad
 
 -- a depth or a target
-abbrev pub small : Field → Option ℕ
-small (Number n) = cond (ltb n (2 ^ 32)) (Some n) None
-small Empty = None
-small LetterD = None
-small LetterT = None
-small Dash = None
-small Other = None
-
 abbrev pub within : (ℕ → Line) → Field → Line
 within g (Number n) = cond (ltb n (2 ^ 32)) (g n) Bad
 within g Empty = Bad

@@ -1,6 +1,6 @@
 // A line, a field at a time.
-ghost use Rattle.std.specs.Prelude.{◌≡◌, option_and_then};
-ghost use Rattle.quote_lines.specs.Machine.{kind_of, small, within, rate_of, next as Machine·next};
+ghost use Rattle.std.specs.Prelude.{◌≡◌};
+ghost use Rattle.quote_lines.specs.Machine.{next as Machine·next};
 
 use crate::field::Field;
 
@@ -16,47 +16,22 @@ pub enum Line {
     Bad,
 }
 
-fn kind_of(f: Field) -> Line
-    ensures { result ≡ kind_of f }
-{
-    match f {
-        Field::LetterD => Line::AfterD,
-        Field::LetterT => Line::AfterT,
-        _ => Line::Bad,
-    }
-}
-
-// A depth or a target: a number within u32.
-fn small(f: Field) -> Option<u32>
-    ensures { result ≡ small f }
-{
-    let Field::Number(n) = f else {
-        return None;
-    };
-    u32::try_from(n).ok()
-}
-
-fn rate_of(depth: u32, f: Field) -> Line
-    ensures { result ≡ rate_of depth f }
-{
-    match f {
-        Field::Number(n) => Line::Entry(depth, Some(n)),
-        Field::Dash => Line::Entry(depth, None),
-        _ => Line::Bad,
-    }
-}
-
 impl Line {
-    // One field more.
+    // One field more. A depth and a target are numbers within u32.
     pub(crate) fn next(self, f: Field) -> Line
         ensures { result ≡ Machine·next self f }
     {
-        match self {
-            Line::Nothing => kind_of(f),
-            Line::AfterD => small(f).map_or(Line::Bad, Line::AfterDepth),
-            Line::AfterDepth(depth) => rate_of(depth, f),
-            Line::AfterT => small(f).map_or(Line::Bad, Line::Target),
-            Line::Entry(..) | Line::Target(_) | Line::Bad => Line::Bad,
+        match (self, f) {
+            (Line::Nothing, Field::LetterD) => Line::AfterD,
+            (Line::Nothing, Field::LetterT) => Line::AfterT,
+            (Line::AfterD, Field::Number(n)) => u32::try_from(n).map_or(
+                Line::Bad,
+                Line::AfterDepth,
+            ),
+            (Line::AfterDepth(depth), Field::Number(n)) => Line::Entry(depth, Some(n)),
+            (Line::AfterDepth(depth), Field::Dash) => Line::Entry(depth, None),
+            (Line::AfterT, Field::Number(n)) => u32::try_from(n).map_or(Line::Bad, Line::Target),
+            _ => Line::Bad,
         }
     }
 }

@@ -8,7 +8,8 @@ use crate::field::Field;
 use crate::line::Line;
 
 // Between two bytes: what the line says so far, what its last field says so far, and what is kept of the lines
-// before. After a bad line nothing is kept.
+// before. After a bad line nothing more is kept: its number stands beside the board and in no `Result` with it, since
+// the definition of a byte's step is over both.
 #[derive(Drop)]
 pub struct Reader {
     line: Line,

@@ -5,7 +5,7 @@ use Rattle.slices.specs.Every.{every}
 use Rattle.slices.specs.Lists.{tabulate}
 use Rattle.slices.proofs.Every.{every-at}
 use Rattle.slices.proofs.Lists.{tabulate-at}
-use Rattle.slices.proofs.Search.{seek_is}
+use Rattle.slices.proofs.Seeking.{seek_is}
 use Rattle.rbitcoin_mempool.specs.Edges.{series, edge_at, first_above}
 use Rattle.rbitcoin_mempool.specs.Decade.{fine_edge, half_unit, InDecade, Ranked, eighth_start, eighth_end, FiveEdges}
 use Rattle.rbitcoin_mempool.proofs.Edges.{edge_mono}

@@ -41,6 +41,4 @@ pub mod RateLists
 pub mod Demand3
 pub mod DepthCases
 pub mod Passes
-pub mod Halving
-pub mod Lerp
 pub mod Publishing

@@ -1,23 +1,38 @@
 -- The fee flow meter: its rates at the opening, what a decay does to one number, the least time of a sample, and the bucket of an admission. Assumes nothing.
-use Rattle.std.proofs.Common.{◌≡◌, ℕ, zero, suc, ◌+◌, ◌-◌, ◌*◌, ◌<◌, ◌≤◌, Bool, true, false, cond, ◌&&◌, ◌||◌, eqb, ltb, get_or, sym, refl, ap, ◌∙◌, true≢false, arith, ltb-true, le-ltb, eqb-true}
+use Rattle.std.proofs.Common.{◌≡◌, ℕ, zero, suc, ◌+◌, ◌-◌, ◌*◌, ◌<◌, ◌≤◌, Bool, true, false, cond, ◌&&◌, ◌||◌, eqb, ltb, get_or, sym, refl, ap, ◌∙◌, true≢false, arith, ltb-true, le-ltb, eqb-true, ne_eqb, map}
 use lib.ListN.{get_or-replicate}
-use lib.Ieee.{Float, nan, inf, fin, binary64, up, down, mul, lt, eq, le, is_nan}
+use lib.Ieee.{Float, nan, inf, fin, binary64, up, down, mul, lt, eq, le, is_nan, round, of_int}
+use lib.Ieee.Fits.{down_pos}
 use Rattle.num.specs.Float.{of_u64, max_of}
 use Rattle.slices.specs.Search.{seek}
 use Rattle.rbitcoin_mempool.specs.Edges.{edge_at, first_above, bucket_index}
-use Rattle.rbitcoin_mempool.specs.Meter.{least_secs, gap, share_left, decayed, new_meter}
+use Rattle.rbitcoin_mempool.specs.Meter.{least_secs, gap, share_left, decayed, new_meter, decay_to}
+use Rattle.rbitcoin_mempool.specs.declared.fee_flow.FeeFlowMeter.{FeeFlowMeter}
+use Rattle.rbitcoin_mempool.proofs.Maps.{map_same}
 
 -- every rate of a new meter is 0
 pub new_meter-zero : (now k : ℕ) → k < 402 → get_or (new_meter now).admit_wu_s k nan ≡ of_u64 0
 new_meter-zero now k h = get_or-replicate {A = Float} 402 k (of_u64 0) nan h
 
+-- a number after a time above 0
+pub decayed-by : (dt x : Float) → le dt (of_u64 0) ≡ false → mul binary64 x (share_left dt) ≡ decayed dt x
+unfolding decayed
+decayed-by dt x h = rw h
+
+-- the meter where the time is not above 0, and where it is
 pub decayed-none : (dt x : Float) → le dt (of_u64 0) ≡ true → decayed dt x ≡ x
 unfolding decayed
 decayed-none dt x h = rw h
 
-pub decayed-by : (dt x share : Float) → le dt (of_u64 0) ≡ false → (le dt (of_u64 0) ≡ false → share ≡ share_left dt) → mul binary64 x share ≡ decayed dt x
-unfolding decayed
-decayed-by dt x share h e = rw (h, e h)
+pub decay-none : (m : FeeFlowMeter) (now : ℕ) → le (gap m.last now) (of_u64 0) ≡ true → m ≡ decay_to m now
+unfolding decay_to
+decay-none m now h =
+    rw (h, decayed-none (gap m.last now) m.admitted_wu h, map_same (decayed (gap m.last now)) (λ x. decayed-none (gap m.last now) x h) m.admit_wu_s)
+
+pub decay-some : (m : FeeFlowMeter) (now : ℕ) (dt : Float) → dt ≡ gap m.last now → le dt (of_u64 0) ≡ false
+    → ◌≡◌ {A = FeeFlowMeter} (record { admit_wu_s = map (decayed dt) m.admit_wu_s; admitted_wu = decayed dt m.admitted_wu; last = now; last_admit = m.last_admit }) (decay_to m now)
+unfolding decay_to
+decay-some m now dt e h = rw (← e, h)
 
 -- ---- `max` is its first argument where that is not below the second
 at_least : (a b : ℕ) (q c : Bool) → (q ≡ true → b ≡ a) → ltb b a || (q && c) ≡ true → b ≤ a
@@ -72,6 +87,20 @@ same-share last la now dt share since d s g e h =
     let l : gap la now ≡ gap last now = ap (λ (n : ℕ). gap n now) (sym e) in
     let h' : le least_secs (gap last now) ≡ true = rw g at h in
     s ∙ ap share_left (d ∙ rw l (max-first (gap last now) least_secs h'))
+
+-- a time of at least the least time is above 0
+not-under : (a b : ℕ) (c : Bool) → b < a → ltb a b || (eqb a b && c) ≡ false
+not-under a b c l = rw (le-ltb a b (omega arith), ne_eqb a b (λ e. omega arith)) refl
+
+pub above-least : (x : Float) → le least_secs x ≡ true → le x (of_u64 0) ≡ false
+unfolding le lt eq round of_int
+above-least nan h = absurd (true≢false (sym h))
+above-least (inf false) h = refl
+above-least (inf true) h = absurd (true≢false (sym h))
+above-least (fin false m e) h =
+    let l = at_least (m * up e * 1152921504606846976) (1152921504606847 * down e) (eqb (1152921504606847 * down e) (m * up e * 1152921504606846976)) true (eqb-true _ _) h in
+    not-under (m * up e * 1) (0 * down e) true (omega (arith, down_pos e, l))
+above-least (fin true m e) h = let l = both_zero (m * up e * 1152921504606846976) (1152921504606847 * down e) h in absurd (omega (arith, down_pos e, l))
 
 -- ---- the bucket is a place of the rates
 seek-le : (p : ℕ → Bool) (i n : ℕ) → seek p i n ≤ i + n

@@ -2,7 +2,7 @@
 use Rattle.std.proofs.Common.{◌≡◌, ℕ, zero, suc, ◌+◌, ◌-◌, ◌<◌, ◌≤◌, min, Bool, true, leb, List, [], ◌∷◌, ◌++◌, length, get_or, take, set, sym, refl, ap, ◌∙◌, subst, inl, inr, le_trans, le_refl, le_of_suc-le-suc, not-suc-le-zero, eq-or-lt_of_le, add-one, arith, length-set, get_or-set_other, take-suc, get_or-set_same, ext_get_or, eq-eqb, ne_eqb, le-leb, leb-false, leb-true}
 use mathlib.Core.Option.{Option, none, some}
 use Rattle.slices.specs.Search.{seek}
-use Rattle.slices.proofs.Search.{sought}
+use Rattle.slices.proofs.Seeking.{sought}
 use Rattle.slices.specs.Lists.{tabulate}
 use Rattle.slices.proofs.Every.{every-at}
 use Rattle.slices.proofs.Lists.{tabulate-is, tabulate-at, tabulate-length}

@@ -3,7 +3,7 @@ use Rattle.std.proofs.Common.{◌≡◌, ℕ, zero, suc, ◌-◌, ◌<◌, ◌�
 use mathlib.Core.Option.{Option, none}
 use borrow.Author.Tests.{lt-leb}
 use Rattle.slices.specs.Search.{seek}
-use Rattle.slices.proofs.Search.{seek_is, sought}
+use Rattle.slices.proofs.Seeking.{seek_is, sought}
 use Rattle.rbitcoin_mempool.specs.Target.{last_there, between, at_index, at_target}
 
 abbrev pub Ascending : List ℕ → Type 0

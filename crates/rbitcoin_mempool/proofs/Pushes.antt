@@ -1,13 +1,13 @@
 -- Each step of a push leaves valid windows, and the steps make the push. Assumes nothing.
-use Rattle.std.proofs.Common.{◌≡◌, ℕ, zero, suc, ◌+◌, ◌-◌, ◌*◌, ◌/◌, ◌<◌, ◌≤◌, Bool, true, false, cond, List, length, set, sym, refl, ap, ◌∙◌, subst, ⊎_elim, zero-le, eq-or-lt_of_le, arith, length-set, eq-eqb, ne_eqb}
+use Rattle.std.proofs.Common.{◌≡◌, ℕ, zero, suc, ◌+◌, ◌-◌, ◌*◌, ◌/◌, ◌<◌, ◌≤◌, Bool, true, false, cond, List, length, set, sym, refl, ◌∙◌, subst, ⊎_elim, zero-le, eq-or-lt_of_le, arith, length-set, eq-eqb, ne_eqb}
 use lib.Ieee.{Float}
 use Rattle.slices.proofs.Runs.{length_moved}
 use Rattle.rbitcoin_mempool.specs.Pairs.{ahead_at, before_at}
 use Rattle.rbitcoin_mempool.specs.Windows.{Room, Valid, Windows, at, each_target, free_of, held, move_region, moved_to, push_back_of, push_front_of, push_of, push_refusal, push_refusal_of, put, rebuild_refusal, rebuild_refusal_of, room_of, store_back, store_front, store_of, windows, with_pairs}
 use Rattle.rbitcoin_mempool.specs.declared.fee_analog.history.AnalogHistory.{AnalogHistory}
-use Rattle.rbitcoin_mempool.specs.Memory.{lent_sizes, windows_of}
+use Rattle.rbitcoin_mempool.specs.Memory.{windows_of}
 use Rattle.rbitcoin_mempool.specs.declared.fee_analog.memory.WindowMemory.{WindowMemory}
-use Rattle.rbitcoin_mempool.specs.declared.fee_analog.memory.WindowSizes.{WindowSizes}
+use Rattle.rbitcoin_mempool.specs.declared.fee_analog.memory.WindowLists.{WindowLists}
 use Rattle.rbitcoin_mempool.proofs.Refusals.{accepted}
 use Rattle.rbitcoin_mempool.proofs.Regions.{region}
 use Rattle.rbitcoin_mempool.proofs.Values.{back-kept, back-moved, front_kept, front-moved, valid_same, windows-eq}
@@ -107,10 +107,10 @@ pub pairs-put : (newest : Bool) (t : AnalogHistory) (hs gs : List ℕ) (bs cs : 
 unfolding with_pairs
 pairs-put newest t hs gs bs cs ds es p q r = windows-eq refl p q r
 
--- the sizes of lent memory, as they were asked for
-module _ (s : AnalogHistory) (m : WindowMemory) (z : WindowSizes) (e : z ≡ lent_sizes m) where
-  pub push-sized : push_refusal s z.hurdles z.befores z.aheads ≡ push_refusal_of (windows_of s m)
-  push-sized = ap (λ (y : WindowSizes). push_refusal s y.hurdles y.befores y.aheads) e
+-- the lists of lent memory, as they were asked for
+module _ (s : AnalogHistory) (m : WindowMemory) (l : WindowLists) (h : l.hurdles.now ≡ m.hurdles.now) (b : l.befores.now ≡ m.befores.now) (a : l.aheads.now ≡ m.aheads.now) where
+  pub push-sized : push_refusal s (length l.hurdles.now) (length l.befores.now) (length l.aheads.now) ≡ push_refusal_of (windows_of s m)
+  push-sized = rw (h, b, a) refl
 
-  pub rebuild-sized : (xs : List ℕ) → rebuild_refusal (length xs) s z.hurdles z.befores z.aheads ≡ rebuild_refusal_of xs (windows_of s m)
-  rebuild-sized xs = ap (λ (y : WindowSizes). rebuild_refusal (length xs) s y.hurdles y.befores y.aheads) e
+  pub rebuild-sized : (xs : List ℕ) → rebuild_refusal (length xs) s (length l.hurdles.now) (length l.befores.now) (length l.aheads.now) ≡ rebuild_refusal_of xs (windows_of s m)
+  rebuild-sized xs = rw (h, b, a) refl

@@ -5,7 +5,7 @@ use lib.Ieee.{Float}
 use Rattle.rbitcoin_mempool.specs.Answer.{Answer, none}
 use Rattle.rbitcoin_mempool.specs.Counted.{count, counted_of}
 use Rattle.slices.specs.Search.{seek}
-use Rattle.slices.proofs.Search.{sought}
+use Rattle.slices.proofs.Seeking.{sought}
 use Rattle.rbitcoin_mempool.specs.declared.fee_analog.history.AnalogHistory.{AnalogHistory}
 use Rattle.rbitcoin_mempool.specs.Pairs.{ahead_of, pairs_of, windows_in}
 use Rattle.rbitcoin_mempool.specs.Reached.{Reached, by_new, by_pop_back, by_pop_front, by_push_back, by_push_front, by_rebuild}

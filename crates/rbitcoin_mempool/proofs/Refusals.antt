@@ -1,5 +1,5 @@
 -- What a refusal of 0 tells of a state and of the memory lent to it. Assumes nothing.
-use Rattle.std.proofs.Common.{◌≡◌, ℕ, zero, suc, ◌+◌, ◌-◌, ◌*◌, ◌<◌, ◌≤◌, Bool, true, false, cond, eqb, ltb, ◌⊎◌, List, sym, refl, ap, ◌∙◌, inl, inr, ⊎_elim, mul-le-mul, arith, ltb-false, le-ltb, eq-eqb, ne_eqb}
+use Rattle.std.proofs.Common.{◌≡◌, ℕ, zero, suc, ◌+◌, ◌-◌, ◌*◌, ◌<◌, ◌≤◌, Bool, true, false, cond, eqb, ltb, ◌⊎◌, List, sym, refl, ap, ◌∙◌, inl, inr, ⊎_elim, mul-le-mul, add-zero, arith, ltb-false, le-ltb, eq-eqb, ne_eqb}
 use borrow.Author.Tests.{eqb-false}
 use Rattle.rbitcoin_mempool.specs.declared.fee_analog.history.AnalogHistory.{AnalogHistory}
 use Rattle.std.specs.Prelude.{Ok, Err}
@@ -11,7 +11,7 @@ use Rattle.rbitcoin_mempool.specs.declared.answer.Refusal.TheVariants.{Unpaired,
 use Rattle.rbitcoin_mempool.specs.Refusal.{number}
 use Rattle.rbitcoin_mempool.specs.Outcome.{done, refused, refusal_of, verdict, verdict_of}
 use Rattle.rbitcoin_mempool.specs.Scan.{scan_refusal}
-use Rattle.rbitcoin_mempool.specs.Windows.{Valid, at, fresh, lent_refusal, open_refusal, opened, or_else, popped, push_refusal, rebuild_refusal, size_refusal, state_refusal}
+use Rattle.rbitcoin_mempool.specs.Windows.{Valid, at, fresh, lent_refusal, open_refusal, opened, or_else, pop_of, popped, push_refusal, rebuild_refusal, size_refusal, state_refusal}
 
 pub zero_or_not : (n : ℕ) → (n ≡ 0) ⊎ (n ≡ 0 → ⊥)
 zero_or_not zero = inl refl
@@ -194,3 +194,8 @@ module _ (targets : List ℕ) (capacity h b a : ℕ) (s : AnalogHistory) (e : s 
   pub open_done : lent_refusal s h b a ≡ 0 → s ≡ opened targets capacity h b a
   unfolding opened
   open_done z = e ∙ sym (rw (eq-eqb (open_refusal targets capacity h b a) 0 (sym open_by ∙ z)))
+
+-- the hurdle at an end goes: the start moves by one where it is the oldest
+pub pop-moves : (b : Bool) (s : AnalogHistory) → popped (s.start + cond b 0 1) s ≡ pop_of b s
+pop-moves true s = ap (λ n. popped n s) (add-zero s.start)
+pop-moves false s = refl

@@ -8,16 +8,12 @@ use Rattle.rbitcoin_mempool.specs.Refusal.{number}
 use Rattle.rbitcoin_mempool.specs.Counted.{counted}
 use Rattle.rbitcoin_mempool.specs.Answer.{answer}
 use Rattle.std.specs.declared.option.Option.{Option}
-use Rattle.rbitcoin_mempool.specs.Memory.{sizes_of}
-use Rattle.rbitcoin_mempool.specs.Scan.{scan_refusal}
-use Rattle.rbitcoin_mempool.specs.declared.fee_analog.memory.WindowLists.{WindowLists}
-use Rattle.rbitcoin_mempool.specs.declared.fee_analog.memory.WindowSizes.{WindowSizes}
 use Rattle.rbitcoin_mempool.proofs.Refusals.{some_number}
 use lib.Ieee.{Float, nan}
 use borrow.Author.Tests.{lt-leb}
 use Rattle.slices.specs.Lists.{tabulate}
 use Rattle.slices.proofs.Lists.{part_offset, tabulate-length, tabulate-same}
-use Rattle.slices.proofs.Search.{sought}
+use Rattle.slices.proofs.Seeking.{sought}
 use Rattle.rbitcoin_mempool.specs.Answer.{Answer, none, rate, refusal}
 use Rattle.rbitcoin_mempool.specs.Counted as counts
 use Rattle.rbitcoin_mempool.specs.Counted.{counted_of}
@@ -165,11 +161,6 @@ answer-given (suc r) a e = absurd (let f : ⊥ = omega arith in f)
 pub answer-passed : (q : Result (Option ℕ) Refusal) (k : Refusal) (r : ℕ) (a : Answer) → IsErrAnd q (λ e. e ≡ k) → number k ≡ r → answer q ≡ answer_after r a
 answer-passed (Ok o) k r a h e = absurd h
 answer-passed (Err j) k r a h e = rw (h, ← e) (answer-refused (number k) a (some_number k _ refl))
-
--- the sizes of lent lists, as they were asked for
-pub scan-sized : (s : AnalogHistory) (l : WindowLists) (z : ℕ) (y : WindowSizes) → y ≡ sizes_of l
-    → scan_refusal s y.hurdles y.befores y.aheads z ≡ scan_refusal s (length l.hurdles.now) (length l.befores.now) (length l.aheads.now) z
-scan-sized s l z y e = ap (λ (y : WindowSizes). scan_refusal s y.hurdles y.befores y.aheads z) e
 
 -- ---- the count, by the same tests
 pub count-refused : (r n : ℕ) → (r ≡ 0 → ⊥) → counts.refused r ≡ counted_of r n

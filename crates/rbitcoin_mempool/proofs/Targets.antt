@@ -7,7 +7,7 @@ use Rattle.std.specs.List.{list_any, position_or_len, prefix_len}
 use Rattle.std.proofs.lemmas.Grind.{common_steps}
 use Rattle.std.proofs.lemmas.List.Sums.{prefix_len-le-length, prefix_len_passes, prefix_len_stops}
 use Rattle.slices.specs.Search.{seek}
-use Rattle.slices.proofs.Search.{seek_is}
+use Rattle.slices.proofs.Seeking.{seek_is}
 use Rattle.rbitcoin_mempool.specs.Pairs.{ahead_of}
 use Rattle.rbitcoin_mempool.specs.Windows.{find_target}
 use Rattle.rbitcoin_mempool.specs.declared.fee_analog.history.AnalogHistory.{AnalogHistory}

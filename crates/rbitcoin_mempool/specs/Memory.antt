@@ -2,7 +2,6 @@
 use Rattle.std.specs.Prelude.{◌≡◌, length}
 use Rattle.rbitcoin_mempool.specs.declared.fee_analog.memory.WindowMemory.{WindowMemory}
 use Rattle.rbitcoin_mempool.specs.declared.fee_analog.memory.WindowLists.{WindowLists}
-use Rattle.rbitcoin_mempool.specs.declared.fee_analog.memory.WindowSizes.{WindowSizes}
 use Rattle.rbitcoin_mempool.specs.declared.fee_analog.history.AnalogHistory.{AnalogHistory}
 use Rattle.rbitcoin_mempool.specs.Windows.{Valid, Windows, windows}
 
@@ -12,12 +11,6 @@ windows_of s m = windows s m.hurdles.now m.befores.now m.aheads.now
 
 abbrev pub windows_seen : AnalogHistory → WindowLists → Windows
 windows_seen s l = windows s l.hurdles.now l.befores.now l.aheads.now
-
-abbrev pub lent_sizes : WindowMemory → WindowSizes
-lent_sizes m = record { hurdles = length m.hurdles.now; befores = length m.befores.now; aheads = length m.aheads.now }
-
-abbrev pub sizes_of : WindowLists → WindowSizes
-sizes_of l = record { hurdles = length l.hurdles.now; befores = length l.befores.now; aheads = length l.aheads.now }
 
 -- the held hurdles lie within the capacity, and the memory holds it
 abbrev pub ValidFor : AnalogHistory → WindowMemory → Type 0

@@ -1,5 +1,5 @@
 -- The lookup of a target among depths, after fee_est.rs. Definitions only.
-use Rattle.std.specs.Prelude.{ℕ, ◌+◌, ◌-◌, ◌*◌, ◌/◌, ◌%◌, min, max, cond, not, ◌||◌, leb, List, [], ◌∷◌, length, take, ◌==◌, nat_le, nat_lt, slice_index, slice_index_or}
+use Rattle.std.specs.Prelude.{ℕ, ◌+◌, ◌-◌, ◌*◌, ◌^◌, ◌/◌, ◌%◌, min, max, cond, not, ◌||◌, leb, List, [], ◌∷◌, length, take, ◌==◌, nat_le, nat_lt, slice_index, slice_index_or}
 use Rattle.std.proofs.Math.Option.{Option, none, some}
 use Rattle.slices.specs.Search.{seek}
 use Rattle.rbitcoin_mempool.specs.Answer.{Answer, refusal}
@@ -10,6 +10,10 @@ use Rattle.rbitcoin_mempool.specs.Hold.{never_descends}
 -- a quotient to the nearest whole number, halves up: the Rust's quotient, and one more where twice the remainder is at least the span
 unfoldable pub nearest_quotient : ℕ → ℕ → ℕ
 nearest_quotient numer span = cond (nat_le span (numer % span * 2)) (numer / span + 1) (numer / span)
+
+-- the point of the line at a distance from its left end, to the nearest, in one word
+abbrev pub nearest_on : ℕ → ℕ → ℕ → ℕ → ℕ
+nearest_on left right dist span = min (nearest_quotient (left * (span - dist) + right * dist) span) (2 ^ 64 - 1)
 
 -- `lerp_sat_kvb`: the straight line at the target, rounded, and held between the two ends
 unfoldable pub lerp_sat_kvb : ℕ → ℕ → ℕ → ℕ → ℕ → ℕ

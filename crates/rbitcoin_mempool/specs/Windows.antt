@@ -184,6 +184,9 @@ pop_back_of s = popped s.start s
 abbrev pub pop_front_of : AnalogHistory → AnalogHistory
 pop_front_of s = popped (s.start + 1) s
 
+abbrev pub pop_of : Bool → AnalogHistory → AnalogHistory
+pop_of newest s = cond newest (pop_back_of s) (pop_front_of s)
+
 -- `find(|d| d.n == n_blocks.max(1))`: the first such target's number, and the number of targets where there is none
 unfoldable pub find_target : AnalogHistory → ℕ → ℕ
 find_target s n = seek (λ d. nat_eq (ahead_of (target_at s d)) (ahead_of n)) 0 s.tracked

@@ -13,9 +13,10 @@ mod window;
 
 pub use history::AnalogHistory;
 pub use median::{analog_lookback, ln_rate, lookback_part, lower_median};
-pub use memory::{WindowLists, WindowMemory, WindowSizes};
+pub use memory::{WindowLists, WindowMemory};
 pub use nearest::analog_band;
 pub use quantile::{historical_confidence_far, log_quantile};
+pub use window::End;
 
 // Lookback medians within this ratio of now count as "looked like now".
 pub const ANALOG_BAND: f64 = 1.25;

@@ -1,7 +1,7 @@
 // The fee flow meter, after fee_flow.rs: an exponential moving average of the admitted weight a
 // second for each fee bucket. Time is a clock of u64 nanoseconds. The core takes and returns the
 // meter by value; `fullness`, `admit_rates_wu_s` and `note_admit` store what it returns.
-ghost use Rattle.std.specs.Prelude.{◌≡◌, false, map, length, if◌then◌else◌};
+ghost use Rattle.std.specs.Prelude.{◌≡◌, true, false, map, length, MatchOption};
 ghost use Rattle.std.specs.Float.Ieee.{le};
 ghost use Rattle.num.specs.Float.{of_u64, max_of};
 ghost use Rattle.rbitcoin_mempool.specs.Meter.{half_life_secs, flow_full_wu, least_secs, gap, share_left, decayed};
@@ -58,54 +58,59 @@ fn share_left(dt: f64) -> f64
     num::exp::exp(-LN_2 * dt / FeeFlowMeter::ADMIT_HALF_LIFE_SECS)
 }
 
-// The same, worked out only for a time above 0.
-fn share_after(dt: f64) -> f64
-    ensures { le dt (of_u64 0) ≡ false → result ≡ share_left dt }
-{
-    if dt <= 0.0 { 1.0 } else { share_left(dt) }
+// A time above 0 that has gone by since a clock, and the share of a rate that it leaves.
+#[derive(Clone, Copy)]
+struct Lapse {
+    secs: f64,
+    share: f64,
+    ghost above: { le secs (of_u64 0) ≡ false },
+    ghost left: { share ≡ share_left secs },
 }
 
-// The share that is left since the clock `last`. The one since the last admission, which is at
-// hand, is taken where the clocks are the same and the gap is at least a millisecond: then the times are too.
-fn share_since(last: u64, last_admit: u64, now: u64, dt: f64, share: f64) -> f64
-    requires { (dt ≡ max_of (gap last_admit now) least_secs) × (share ≡ share_left dt) }
-    ensures { le (gap last now) (of_u64 0) ≡ false → result ≡ share_left (gap last now) }
-{
-    let since = secs_between(last, now);
-    if last == last_admit && since >= LEAST_SECS {
-        share
-    } else {
-        share_after(since)
+impl Lapse {
+    // None where the time is not above 0.
+    fn since(last: u64, now: u64) -> Option<Lapse>
+        ensures { MatchOption result (le (gap last now) (of_u64 0) ≡ true) (λ lapse. lapse.secs ≡ gap last now) }
+    {
+        let secs = secs_between(last, now);
+        if secs <= 0.0 {
+            return None;
+        }
+        Some(Lapse {
+            secs,
+            share: share_left(secs),
+        })
     }
-}
 
-// A total after a time that leaves a share of it.
-fn decay_total(total: f64, dt: f64, share: f64) -> f64
-    requires { le dt (of_u64 0) ≡ false → share ≡ share_left dt }
-    ensures { result ≡ decayed dt total }
-{
-    if dt <= 0.0 { total } else { total * share }
-}
-
-// Each rate after such a time, in place.
-fn decay_rates(rates: &mut [f64; 402], dt: f64, share: f64)
-    requires rates_len { length rates.old ≡ 402 }
-    requires share_value { le dt (of_u64 0) ≡ false → share ≡ share_left dt }
-    ensures { rates.new ≡ map (decayed dt) rates.old }
-{
-    if dt <= 0.0 {
-        return;
+    // The same, where the share since the last admission is at hand. It is taken where the clocks are the same and the
+    // gap is at least a millisecond: then the times are too.
+    fn since_with(last: u64, last_admit: u64, now: u64, dt: f64, share: f64) -> Option<Lapse>
+        requires { (dt ≡ max_of (gap last_admit now) least_secs) × (share ≡ share_left dt) }
+        ensures { MatchOption result (le (gap last now) (of_u64 0) ≡ true) (λ lapse. lapse.secs ≡ gap last now) }
+    {
+        let secs = secs_between(last, now);
+        if last == last_admit && secs >= LEAST_SECS {
+            return Some(Lapse { secs, share });
+        }
+        Lapse::since(last, now)
     }
-    for rate in rates.iter_mut() {
-        *rate *= share;
-    }
-}
 
-// The decay clock after such a time.
-fn decay_clock(last: u64, now: u64, dt: f64) -> u64
-    ensures { result ≡ (if le dt (of_u64 0) then last else now) }
-{
-    if dt <= 0.0 { last } else { now }
+    // A total after it.
+    fn total(self, total: f64) -> f64
+        ensures { result ≡ decayed self.secs total }
+    {
+        total * self.share
+    }
+
+    // Each rate after it, in place.
+    fn decay(self, rates: &mut [f64; 402])
+        requires { length rates.old ≡ 402 }
+        ensures { rates.new ≡ map (decayed self.secs) rates.old }
+    {
+        for rate in rates.iter_mut() {
+            *rate *= self.share;
+        }
+    }
 }
 
 impl FeeFlowMeter {
@@ -132,12 +137,12 @@ impl FeeFlowMeter {
     pub fn decay_to(self, now: u64) -> Self
         ensures { result ≡ decay_to self now }
     {
-        let dt = secs_between(self.last, now);
-        let share = share_after(dt);
         let mut m = self;
-        decay_rates(&mut m.admit_wu_s, dt, share);
-        m.admitted_wu = decay_total(m.admitted_wu, dt, share);
-        m.last = decay_clock(m.last, now, dt);
+        if let Some(lapse) = Lapse::since(m.last, now) {
+            lapse.decay(&mut m.admit_wu_s);
+            m.admitted_wu = lapse.total(m.admitted_wu);
+            m.last = now;
+        }
         m
     }
 
@@ -168,13 +173,14 @@ impl FeeFlowMeter {
         let dt = num::float::max(secs_between(self.last_admit, now), LEAST_SECS);
         let kept_dt = share_left(dt);
         let added = weight / dt * (1.0 - kept_dt);
-        let since = secs_between(self.last, now);
-        let share = share_since(self.last, self.last_admit, now, dt, kept_dt);
         let mut m = self;
-        decay_rates(&mut m.admit_wu_s, since, share);
+        if let Some(lapse) = Lapse::since_with(m.last, m.last_admit, now, dt, kept_dt) {
+            lapse.decay(&mut m.admit_wu_s);
+            m.admitted_wu = lapse.total(m.admitted_wu);
+            m.last = now;
+        }
         m.admit_wu_s[i] += added;
-        m.admitted_wu = decay_total(m.admitted_wu, since, share) + weight;
-        m.last = decay_clock(m.last, now, since);
+        m.admitted_wu += weight;
         m.last_admit = now;
         m
     }

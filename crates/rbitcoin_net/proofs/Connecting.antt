@@ -2,7 +2,7 @@
 use Prim.Native.Nat.{ℕ, ◌+◌, ◌-◌, ◌≤◌, ◌<◌}
 use mathlib.Core.Path.{◌≡◌, refl, sym, ◌∙◌, ap, subst}
 use mathlib.Core.Bool.{cond}
-use mathlib.Core.List.{List, []}
+use mathlib.Core.List.{List}
 use mathlib.Core.Option.{Option}
 use native.Mathlib.Omega.{arith}
 use lib.Ieee.{Float}
@@ -16,11 +16,12 @@ use Rattle.rbitcoin_net.specs.declared.fee_history.HistoricalFeeBlock.{Historica
 use Rattle.rbitcoin_net.specs.declared.fee_history.FeeHistory.{FeeHistory}
 use Rattle.rbitcoin_net.specs.History.{hurdle_of}
 use Rattle.rbitcoin_net.specs.Lent.{Rows, Reach, Hashes, Lent, lent, windows_of, lent_refusal}
-use Rattle.rbitcoin_net.specs.Search.{bisect, place_of}
+use Rattle.slices.specs.Search.{bisect}
+use Rattle.rbitcoin_net.specs.Search.{place_of}
 use Rattle.rbitcoin_net.specs.Hashes.{hash_list, Room, hash_place}
 use Rattle.rbitcoin_net.specs.Cuts.{with_hashes, unkept, cut_at, drop_from}
 use Rattle.rbitcoin_net.specs.Rooms.{Roomy}
-use Rattle.rbitcoin_net.specs.Inserts.{sizes_refusal, insert_refusal, Placed, Whole, whole, Filed, filed, with_windows, push_rate, store_in, insert_in}
+use Rattle.rbitcoin_net.specs.Inserts.{insert_refusal, Placed, Whole, whole, Filed, filed, with_windows, push_rate, store_in, insert_in}
 use Rattle.rbitcoin_net.proofs.Tables.{either}
 use Rattle.rbitcoin_net.proofs.Search.{place_is}
 use Rattle.rbitcoin_net.proofs.Hashes.{hash-place-is}
@@ -30,55 +31,43 @@ use Rattle.rbitcoin_net.proofs.Inserting.{bisect-within}
 
 -- ---- what is refused
 
-abbrev pub sizes_of : FeeHistory → Lent → ℕ
-sizes_of s m = sizes_refusal s (length m.rows.heights) (length m.rows.marks) (length m.rows.rates) (length m.rows.sizes) (length m.hashes.heights) (length m.hashes.bytes) (length m.hurdles) (length m.befores) (length m.aheads)
+pub insert_short : (h : ℕ) (s : FeeHistory) (m : Lent) (k : ℕ) → k ≡ lent_refusal s m → (k ≡ 0 → ⊥) → k ≡ insert_refusal h s m
+unfolding insert_refusal
+insert_short h s m k e n = first_stands (lent_refusal s m) _ k e n
 
-module _ (h : ℕ) (s : FeeHistory) (m : Lent) (k : ℕ) (e : k ≡ sizes_of s m) where
-  pub lent_is : k ≡ lent_refusal s m
-  unfolding sizes_refusal lent_refusal
-  lent_is = e
+-- rows of memory that serves, and a place below the capacity
+pub rows_ready : (s : FeeHistory) (m : Lent) → lent_refusal s m ≡ 0 → (s.start + s.count ≤ 65536) × (s.start + s.count ≤ length m.rows.heights)
+rows_ready s m z =
+    let v = serves s m z in
+    let w = v.rows-within in
+    (omega (arith, v.windows.small), omega (arith, v.rows-reach.heights))
 
-  pub insert_short : (k ≡ 0 → ⊥) → k ≡ insert_refusal h s m
+pub insert-fits : (s : FeeHistory) (m : Lent) (p : ℕ) → lent_refusal s m ≡ 0 → p ≤ s.start + s.count → (p - s.start ≡ s.analog.capacity → ⊥) → p < s.start + s.analog.capacity
+insert-fits s m p z l n =
+    let v = serves s m z in
+    let w = v.rows-within in
+    either p (s.start + s.analog.capacity) (λ o. o) (λ o. absurd (n (omega arith)))
+
+module _ (h : ℕ) (s : FeeHistory) (m : Lent) (p : ℕ) (z : lent_refusal s m ≡ 0) (d : p ≡ bisect (s.start + s.count - s.start) m.rows.heights h s.start (s.start + s.count)) where
+  abbrev below : ℕ
+  below = place_of m.rows.heights s h - s.start
+
+  place : p ≡ place_of m.rows.heights s h
+  place = place_is m.rows.heights s h p d
+
+  is_below : p - s.start ≡ below
+  is_below = ap (λ j. j - s.start) place
+
+  pub insert-full : p - s.start ≡ s.analog.capacity → 4 ≡ insert_refusal h s m
   unfolding insert_refusal
-  insert_short n = first_stands (lent_refusal s m) _ k lent_is n
+  insert-full f = then_second (lent_refusal s m) _ _ 4 refl z (sym (ap (λ b. cond b 4 0) (eq-eqb below s.analog.capacity (sym is_below ∙ f))))
 
-  pub rows_ready : k ≡ 0 → (s.start + s.count ≤ 65536) × (s.start + s.count ≤ length m.rows.heights)
-  rows_ready z =
-      let v = serves s m (sym lent_is ∙ z) in
-      let w = v.rows-within in
-      (omega (arith, v.windows.small), omega (arith, v.rows-reach.heights))
+  pub insert_free : (p - s.start ≡ s.analog.capacity → ⊥) → insert_refusal h s m ≡ 0
+  unfolding insert_refusal
+  insert_free f = sym (then_second (lent_refusal s m) _ _ 0 refl z (sym (ap (λ b. cond b 4 0) (ne_eqb below s.analog.capacity (λ y. f (is_below ∙ y))))))
 
-  -- below the capacity, where it is not refused
-  pub insert-fits : k ≡ 0 → (p : ℕ) → p ≤ s.start + s.count → (p - s.start ≡ s.analog.capacity → ⊥) → p < s.start + s.analog.capacity
-  insert-fits z p l n =
-      let v = serves s m (sym lent_is ∙ z) in
-      let w = v.rows-within in
-      either p (s.start + s.analog.capacity) (λ o. o) (λ o. absurd (n (omega arith)))
-
-  module _ (z : k ≡ 0) (p : ℕ) (d : p ≡ bisect (s.start + s.count - s.start) m.rows.heights h s.start (s.start + s.count)) where
-    abbrev below : ℕ
-    below = place_of m.rows.heights s h - s.start
-
-    place : p ≡ place_of m.rows.heights s h
-    place = place_is m.rows.heights s h p d
-
-    is_below : p - s.start ≡ below
-    is_below = ap (λ j. j - s.start) place
-
-    pub insert-full : p - s.start ≡ s.analog.capacity → 4 ≡ insert_refusal h s m
-    unfolding insert_refusal
-    insert-full f = then_second (lent_refusal s m) _ k 4 lent_is z (sym (ap (λ b. cond b 4 0) (eq-eqb below s.analog.capacity (sym is_below ∙ f))))
-
-    pub insert_free : (p - s.start ≡ s.analog.capacity → ⊥) → insert_refusal h s m ≡ 0
-    unfolding insert_refusal
-    insert_free f = sym (then_second (lent_refusal s m) _ k 0 lent_is z (sym (ap (λ b. cond b 4 0) (ne_eqb below s.analog.capacity (λ y. f (is_below ∙ y))))))
-
-    pub placed : s.start ≤ p → p ≤ s.start + s.count → Placed s m h p
-    placed low high = record { lent = sym lent_is ∙ z; place = place; low = low; high = high }
-
--- memory that is not refused, by the lists' lengths
-pub sizes_taken : (h : ℕ) (s : FeeHistory) (m : Lent) → lent_refusal s m ≡ 0 → 0 ≡ sizes_of s m
-sizes_taken h s m e = sym (lent_is h s m _ refl ∙ e)
+  pub placed : s.start ≤ p → p ≤ s.start + s.count → Placed s m h p
+  placed low high = record { lent = z; place = place; low = low; high = high }
 
 -- ---- what the steps ask for
 
@@ -126,10 +115,10 @@ module _ (h p : ℕ) (s : FeeHistory) (m : Lent) (x : Placed s m h p) where
   unfolding drop_from cut_at hash_place
   left-hashes = bisect-within m.hashes.heights h s.hashes 0 s.hashes (omega arith)
 
-  abbrev Ready : AnalogHistory → FeeHistory → Type 0
-  Ready a t = Roomy t.count (with_windows a t.analog_stale t) (length m.rows.heights) (length m.rows.marks) (length m.rows.rates) (length m.rows.sizes) × Room (hash_list t.hashes m.hashes)
+  abbrev Ready : FeeHistory → Type 0
+  Ready t = Roomy t.count t (length m.rows.heights) (length m.rows.marks) (length m.rows.rates) (length m.rows.sizes) × Room (hash_list t.hashes m.hashes)
 
-  left_ready : (a : AnalogHistory) → a.capacity ≡ s.analog.capacity → p < s.start + s.analog.capacity → Ready a left
+  left_ready : (a : AnalogHistory) → a.capacity ≡ s.analog.capacity → p < s.start + s.analog.capacity → Ready (with_windows a left.analog_stale left)
   left_ready a c l =
       let v = served in
       let r = v.rows-reach in
@@ -159,15 +148,16 @@ module _ (h p : ℕ) (s : FeeHistory) (m : Lent) (x : Placed s m h p) where
         ∙ ap (λ (u : FeeHistory). u.analog.capacity) e
         ∙ left_capacity
 
-    pub store_ready : p < s.start + s.analog.capacity → Ready a t
-    store_ready l = subst (Ready a) (sym e) (left_ready a capacity-is l)
+    pub store_ready : (u : FeeHistory) → u ≡ with_windows a t.analog_stale t → p < s.start + s.analog.capacity → Ready u
+    store_ready u g l = subst Ready (sym (g ∙ ap (λ (v : FeeHistory). with_windows a v.analog_stale v) e)) (left_ready a capacity-is l)
 
-  pub connected_all : (b : HistoricalFeeBlock) (hash : Option (List ℕ)) (t r : FeeHistory) (a : AnalogHistory) (n : Rows) (y : Hashes) (us : List ℕ) (bs : List Float) (ds : List ℕ) → t ≡ left
-      → windows a us bs ds ≡ push_rate push_back_of (hurdle_of b) t.analog_stale (windows_of t m) → filed r n y ≡ store_in t.count h b hash (filed (with_windows a t.analog_stale t) m.rows m.hashes)
+  pub connected_all : (b : HistoricalFeeBlock) (hash : Option (List ℕ)) (t u r : FeeHistory) (a : AnalogHistory) (n : Rows) (y : Hashes) (us : List ℕ) (bs : List Float) (ds : List ℕ) → t ≡ left
+      → windows a us bs ds ≡ push_rate push_back_of (hurdle_of b) t.analog_stale (windows_of t m) → u ≡ with_windows a t.analog_stale t → filed r n y ≡ store_in u.count h b hash (filed u m.rows m.hashes)
       → whole r (lent n y us bs ds) ≡ insert_in h b hash (whole s m)
   unfolding insert_in
-  connected_all b hash t r a n y us bs ds e d f =
+  connected_all b hash t u r a n y us bs ds e d g f =
       let F : FeeHistory → Windows → Whole = λ u w. (let v = store_in u.count h b hash (filed (with_windows w.state u.analog_stale u) m.rows m.hashes) in whole v.state (lent v.rows v.hashes w.hurdles w.befores w.aheads)) in
-      ap (λ (v : Filed). whole v.state (lent v.rows v.hashes us bs ds)) f
+      ap (λ (v : Filed). whole v.state (lent v.rows v.hashes us bs ds))
+      (f ∙ ap (λ (v : FeeHistory). store_in v.count h b hash (filed v m.rows m.hashes)) g)
       ∙ ap (F t) d
       ∙ ap (λ (u : FeeHistory). F u (push_rate push_back_of (hurdle_of b) u.analog_stale (windows_of u m))) e

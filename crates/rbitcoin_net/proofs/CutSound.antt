@@ -10,7 +10,6 @@ use lib.Ieee.{Float}
 use lib.ListN.{length, get_or, take, length-append}
 use lib.Seq.{length-take-le, take-append-add}
 use Rattle.slices.specs.Lists.{tabulate}
-use Rattle.rbitcoin_mempool.specs.declared.fee_analog.history.AnalogHistory.{AnalogHistory}
 use Rattle.rbitcoin_mempool.specs.Pairs.{pop_back}
 use Rattle.rbitcoin_mempool.specs.Outcome.{Verdict, done, refused, verdict_of}
 use Rattle.rbitcoin_mempool.specs.Windows.{held_in, pop_back_of, or_else}
@@ -21,10 +20,11 @@ use Rattle.rbitcoin_net.specs.declared.fee_history.HistoricalFeeBlock.{Historica
 use Rattle.rbitcoin_net.specs.declared.fee_history.FeeHistory.{FeeHistory}
 use Rattle.rbitcoin_net.specs.Map.{Entry, is_some}
 use Rattle.rbitcoin_net.specs.History.{History, truncate_above, hurdle_of, forget, forget_all, next, cons_maybe, hurdles_of}
-use Rattle.rbitcoin_net.specs.Lent.{Rows, rows, Hashes, hashes, Lent, lent, row_at, held_rows, hash_at, hashes_in, windows_of, view, state_refusal, rows_refusal, Sound}
-use Rattle.rbitcoin_net.specs.Search.{bisect, place_of}
+use Rattle.rbitcoin_net.specs.Lent.{Rows, Hashes, Lent, lent, row_at, held_rows, hash_at, hashes_in, windows_of, view, state_refusal, rows_refusal, Sound}
+use Rattle.slices.specs.Search.{bisect}
+use Rattle.rbitcoin_net.specs.Search.{place_of}
 use Rattle.rbitcoin_net.specs.Hashes.{hash_list, hash_place}
-use Rattle.rbitcoin_net.specs.Cuts.{with_rows, with_hashes, unkept, forget_row, forget_rows, cut_at, drop_from, truncate_in, truncate_refusal, truncate_refusal_of, Truncates}
+use Rattle.rbitcoin_net.specs.Cuts.{with_hashes, unkept, forget_row, forget_rows, cut_at, drop_from, truncate_in, truncate_refusal, truncate_refusal_of, Truncates}
 use Rattle.rbitcoin_net.proofs.Tables.{Parts, table-split, ascends-at, ascends_of}
 use Rattle.rbitcoin_net.proofs.Search.{place_parts, place_is}
 use Rattle.rbitcoin_net.proofs.Hashes.{hash-place-is}

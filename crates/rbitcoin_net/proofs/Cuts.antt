@@ -7,7 +7,6 @@ use native.Mathlib.Omega.{arith}
 use lib.Dec.{eqb}
 use lib.ListN.{get_or}
 use Rattle.num.specs.Word.{saturating_sub}
-use Rattle.std.specs.declared.option.Option as rust
 use Rattle.std.specs.Prelude.{Some, None}
 use Rattle.rbitcoin_mempool.specs.declared.fee_analog.history.AnalogHistory.{AnalogHistory}
 use Rattle.rbitcoin_mempool.specs.Rates.{given, mark_of}
@@ -16,33 +15,6 @@ use Rattle.rbitcoin_net.specs.Lent.{Rows, block_at}
 use Rattle.rbitcoin_net.specs.Cuts.{with_rows, with_sums, forget_row, forget_block, forget_rows, cut_at}
 use Rattle.rbitcoin_net.specs.declared.fee_history.HistoricalFeeBlock.{HistoricalFeeBlock}
 use Rattle.rbitcoin_net.specs.declared.fee_history.FeeHistory.{FeeHistory}
-
--- a block forgotten, by its cases
-module _ (pop : AnalogHistory → AnalogHistory) (old : HistoricalFeeBlock) (total : ℕ) (s t : FeeHistory) (sum : total ≡ saturating_sub s.txstat_bytes old.txstat_bytes) where
-  abbrev pops : rust.Option ℕ → Bool → Bool
-  pops r stale = eqb (mark_of (given r)) 1 && not stale
-
-  pub forget-stale : s.analog_stale ≡ true → t ≡ with_sums s.analog total s → t ≡ forget_block pop old s
-  unfolding forget_row
-  forget-stale b e =
-      let g : pops old.p10_sat_kvb s.analog_stale ≡ false = ap (pops old.p10_sat_kvb) b ∙ go old.p10_sat_kvb in
-      e ∙ rw (g, sum)
-    where
-      go : (r : rust.Option ℕ) → pops r true ≡ false
-      go (Some n) = refl
-      go None = refl
-
-  pub forget-missing : old.p10_sat_kvb ≡ None → t ≡ with_sums s.analog total s → t ≡ forget_block pop old s
-  unfolding forget_row
-  forget-missing r e =
-      let g : pops old.p10_sat_kvb s.analog_stale ≡ false = ap (λ (x : rust.Option ℕ). pops x s.analog_stale) r in
-      e ∙ rw (g, sum)
-
-  pub forget_there : (n : ℕ) (a : AnalogHistory) → old.p10_sat_kvb ≡ Some n → s.analog_stale ≡ false → a ≡ pop s.analog → t ≡ with_sums a total s → t ≡ forget_block pop old s
-  unfolding forget_row
-  forget_there n a r b d e =
-      let g : pops old.p10_sat_kvb s.analog_stale ≡ true = (λ i. pops (r i) (b i)) in
-      e ∙ rw (g, sum, d)
 
 -- a rate that was read from a mark has mark 1 where that mark is 1
 marked-again : (b : Bool) (n : ℕ) → eqb (mark_of (given (cond b (Some n) None))) 1 ≡ b

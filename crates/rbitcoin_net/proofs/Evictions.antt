@@ -7,10 +7,10 @@ use lib.ListN.{get_or}
 use borrow.Author.Tests.{lt-ltb, le-ltb}
 use Rattle.slices.proofs.Runs.{length_moved}
 use Rattle.rbitcoin_mempool.specs.Windows.{pop_front_of}
-use Rattle.rbitcoin_net.specs.Lent.{Rows, Hashes, block_at}
+use Rattle.rbitcoin_net.specs.Lent.{Rows, block_at}
 use Rattle.rbitcoin_net.specs.Search.{is_at}
 use Rattle.rbitcoin_net.specs.Hashes.{HashList, hash_list, Room, moved_hashes, hash_place, remove_at, remove_hash}
-use Rattle.rbitcoin_net.specs.Cuts.{with_rows, with_sums, with_hashes, forget_row}
+use Rattle.rbitcoin_net.specs.Cuts.{with_rows, with_sums, with_hashes}
 use Rattle.rbitcoin_net.specs.Evictions.{Hashed, hashed, evict_row, evict_block, evict_oldest, evict_rows}
 use Rattle.rbitcoin_net.specs.declared.fee_history.HistoricalFeeBlock.{HistoricalFeeBlock}
 use Rattle.rbitcoin_net.specs.declared.fee_history.FeeHistory.{FeeHistory}
@@ -39,12 +39,6 @@ remove-room h k r = go (is_at k.lists.heights k.count h (hash_place h k)) refl
     go false t = r
 
 -- one row evicted
-pub evicted-one : (height mark size left : ℕ) (s t : FeeHistory) (z y : Hashes) → hash_list left y ≡ remove_hash height (hash_list s.hashes z) → t ≡ forget_row pop_front_of mark size s
-    → hashed (with_hashes left (with_rows (t.start + 1) (t.count - 1) t)) y ≡ evict_row height mark size (hashed s z)
-unfolding evict_row forget_row
-evicted-one height mark size left s t z y e d =
-    (λ i. hashed (with_hashes (e i).count (with_rows ((d i).start + 1) ((d i).count - 1) (d i))) (e i).lists)
-
 -- the block at a place is evicted as its row is
 pub evicted-at : (height i : ℕ) (m : Rows) (old : HistoricalFeeBlock) (x y : Hashed) → old ≡ block_at m i → y ≡ evict_block height old x → y ≡ evict_row height (get_or m.marks i 0) (get_or m.sizes i 0) x
 unfolding evict_row
@@ -93,6 +87,10 @@ going_on m h k q r goal x y g p l e =
       room = remove-room (get_or m.heights x.state.start 0) (hash_list x.state.hashes x.hashes) g.room;
       same = sym (evict_turn m x.state.count x p l) ∙ g.same;
     }
+
+pub evicted-start : (height mark size : ℕ) (x : Hashed) → (evict_row height mark size x).state.start ≡ x.state.start + 1
+unfolding evict_row
+evicted-start height mark size x = refl
 
 pub evicted-count : (height mark size : ℕ) (x : Hashed) → (evict_row height mark size x).state.count ≡ x.state.count - 1
 unfolding evict_row

@@ -11,7 +11,8 @@ use Rattle.rbitcoin_mempool.proofs.Refusals.{or-else_second}
 use Rattle.rbitcoin_net.specs.declared.fee_history.FeeHistory.{FeeHistory}
 use Rattle.rbitcoin_net.specs.Map.{Ascends, below, contains_key}
 use Rattle.rbitcoin_net.specs.Lent.{Rows, Lent, row_at, held_rows, view, lent_refusal, Sound}
-use Rattle.rbitcoin_net.specs.Search.{bisect, place_of, is_at, is_held}
+use Rattle.slices.specs.Search.{bisect}
+use Rattle.rbitcoin_net.specs.Search.{place_of, is_at, is_held}
 use Rattle.rbitcoin_net.specs.Inserts.{insert_refusal, insert_if_absent_refusal}
 use Rattle.rbitcoin_net.proofs.Tables.{below_table}
 use Rattle.rbitcoin_net.proofs.Search.{place_parts, contains-is}

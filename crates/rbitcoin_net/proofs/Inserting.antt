@@ -2,7 +2,7 @@
 use Prim.Native.Nat.{ℕ, zero, suc, ◌+◌, ◌-◌, ◌≤◌}
 use mathlib.Core.Path.{◌≡◌, refl, sym, ◌∙◌, ap, subst}
 use mathlib.Core.Bool.{Bool, true, false, cond}
-use mathlib.Core.List.{List, []}
+use mathlib.Core.List.{List}
 use mathlib.Core.Option.{Option, none, some}
 use native.Mathlib.Omega.{arith}
 use lib.Dec.{ltb}
@@ -10,41 +10,21 @@ use lib.ListN.{length, get_or}
 use borrow.Author.Tests.{ltb-true}
 use Rattle.std.specs.declared.option.Option as rust
 use Rattle.std.specs.Prelude.{Some, None}
-use Rattle.rbitcoin_mempool.specs.Rates.{given, mark_of, number_of}
-use Rattle.rbitcoin_mempool.specs.Windows.{Windows}
+use Rattle.rbitcoin_mempool.specs.Rates.{mark_of, number_of}
 use Rattle.rbitcoin_net.specs.declared.fee_history.block_hash.BlockHash.{BlockHash}
 use Rattle.rbitcoin_net.specs.declared.fee_history.HistoricalFeeBlock.{HistoricalFeeBlock}
 use Rattle.rbitcoin_net.specs.declared.fee_history.FeeHistory.{FeeHistory}
 use Rattle.rbitcoin_net.specs.History.{hurdle_of}
 use Rattle.rbitcoin_net.specs.Lent.{Rows, rows, Hashes}
-use Rattle.rbitcoin_net.specs.Search.{bisect}
+use Rattle.slices.specs.Search.{bisect}
 use Rattle.rbitcoin_net.specs.Hashes.{HashList, hash_list, Room, Whole32, hash_of, hash_place, note_hash_in}
-use Rattle.rbitcoin_net.specs.Cuts.{with_hashes, unkept}
+use Rattle.rbitcoin_net.specs.Cuts.{with_hashes}
 use Rattle.rbitcoin_net.specs.Rooms.{start_with, Stored, stored, hold_at, Roomy}
-use Rattle.rbitcoin_net.specs.Evictions.{Hashed, hashed, evict_oldest, evict_rows, evict_in}
-use Rattle.rbitcoin_net.specs.Inserts.{Filed, filed, push_rate, store_in}
-use Rattle.rbitcoin_net.proofs.Search.{mid}
+use Rattle.rbitcoin_net.specs.Evictions.{Hashed, hashed, evict_in}
+use Rattle.rbitcoin_net.specs.Inserts.{Filed, filed, store_in}
+use Rattle.slices.proofs.Bisect.{mid}
 use Rattle.rbitcoin_net.proofs.Rooms.{row_put-long, start-room, source, target}
 use Rattle.rbitcoin_net.proofs.HashViews.{note-room}
-
--- ---- a rate pushed, by its cases
-
-module _ (push : ℕ → Windows → Windows) (rate : rust.Option ℕ) (stale : Bool) (w : Windows) where
-  pub push-stale : stale ≡ true → w ≡ push_rate push (given rate) stale w
-  unfolding push_rate
-  push-stale e = go rate ∙ ap (λ b. push_rate push (given rate) b w) (sym e)
-    where
-      go : (r : rust.Option ℕ) → w ≡ push_rate push (given r) true w
-      go (Some n) = refl
-      go None = refl
-
-  pub push_there : (n : ℕ) (y : Windows) → rate ≡ Some n → stale ≡ false → y ≡ push n w → y ≡ push_rate push (given rate) stale w
-  unfolding push_rate
-  push_there n y r e d = d ∙ sym (λ i. push_rate push (given (r i)) (e i) w)
-
-  pub push-missing : rate ≡ None → w ≡ push_rate push (given rate) stale w
-  unfolding push_rate
-  push-missing r = sym (ap (λ (x : rust.Option ℕ). push_rate push (given x) stale w) r)
 
 -- ---- a hash noted leaves room, whatever the memory
 

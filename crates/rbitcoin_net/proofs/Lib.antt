@@ -16,6 +16,7 @@ pub mod CutViews
 pub mod CutSound
 pub mod MapLaws
 pub mod EvictSound
+pub mod Steps
 pub mod Stores
 pub mod Pushed
 pub mod Connects

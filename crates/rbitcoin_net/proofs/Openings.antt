@@ -10,7 +10,7 @@ use borrow.Author.Tests.{eq-eqb, ne_eqb}
 use Rattle.slices.specs.Lists.{tabulate}
 use Rattle.slices.proofs.Lists.{tabulate-at, tabulate-is, tabulate-same}
 use Rattle.rbitcoin_mempool.specs.declared.fee_analog.history.AnalogHistory.{AnalogHistory}
-use Rattle.rbitcoin_mempool.specs.Outcome.{Verdict, done, refused, verdict_number, verdict_of}
+use Rattle.rbitcoin_mempool.specs.Outcome.{done, refused, verdict_number, verdict_of}
 use Rattle.rbitcoin_mempool.specs.Windows.{held, Valid}
 use Rattle.rbitcoin_mempool.specs.Windows.{fresh as fresh_windows, unopened as unopened_windows, opened as opened_windows, open_refusal as windows_open_refusal, state_refusal as windows_refusal, size_refusal as windows_size_refusal, lent_refusal as windows_lent_refusal}
 use Rattle.rbitcoin_mempool.proofs.Kept.{empty_good, good-stored}

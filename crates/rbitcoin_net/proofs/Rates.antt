@@ -27,11 +27,8 @@ use Rattle.rbitcoin_net.specs.Readers.{wrote}
 use Rattle.rbitcoin_net.specs.declared.fee_history.FeeHistory.{FeeHistory}
 use Rattle.rbitcoin_net.proofs.Pushed.{hurdles-few, sound_good}
 use Rattle.rbitcoin_net.proofs.SetUps.{rates-set-up, refreshed-set-up}
-use Rattle.rbitcoin_net.proofs.Rating.{numbers_are, marks_are}
+use Rattle.std.proofs.lemmas.List.{length-map}
 use Rattle.rbitcoin_net.proofs.Refusals.{Reach, Serves, serves, serves-lent, rates-fit}
-
-pub false-true : false ≡ true → ⊥
-false-true e = let f : ◌≡◌ {A = ℕ} 0 1 = ap (λ b. cond b 1 0) e in omega arith
 
 -- ---- the state that `rates` leaves, by the code's branches
 
@@ -253,10 +250,12 @@ module _ (m : Rows) (x : Rated) (o : Outputs) where
 
   module _ (y : Rated) (q : Outputs) (e : refusal_for m x o ≡ 0) (d : y ≡ rates_in (length o.scratch) m x) where
     numbers-long : length (numbers_of (answers_in y.state)) ≡ y.state.analog.tracked
-    numbers-long = ap length (numbers_are y.state) ∙ tabulate-length _ 0 y.state.analog.tracked
+    unfolding answers_in
+    numbers-long = length-map (answers_in y.state) number_of ∙ tabulate-length _ 0 y.state.analog.tracked
 
     marks-long : length (marks_of (answers_in y.state)) ≡ y.state.analog.tracked
-    marks-long = ap length (marks_are y.state) ∙ tabulate-length _ 0 y.state.analog.tracked
+    unfolding answers_in
+    marks-long = length-map (answers_in y.state) mark_of ∙ tabulate-length _ 0 y.state.analog.tracked
 
     pub rates-done : q.numbers ≡ numbers_of (answers_in y.state) ++ drop y.state.analog.tracked o.numbers → q.marks ≡ marks_of (answers_in y.state) ++ drop y.state.analog.tracked o.marks
         → length q.scratch ≡ length o.scratch → (x.state.kept ≡ true → q.scratch ≡ o.scratch) → (((d : ℕ) → d < x.state.analog.tracked → rate_from (refreshed_in m x) (length o.scratch) d ≡ none) → q.scratch ≡ o.scratch) → AnswersRates m x o done y q

@@ -3,6 +3,8 @@ use Prim.Native.Nat.{ℕ, zero, suc, ◌+◌, ◌-◌, ◌*◌, ◌≤◌}
 use mathlib.Core.Path.{◌≡◌, refl, sym, ◌∙◌, ap}
 use mathlib.Core.Bool.{Bool, true, false, cond}
 use mathlib.Core.List.{List, ◌++◌, map}
+use mathlib.Core.Option.{Option, some, none}
+use Rattle.std.proofs.lemmas.List.{length-map}
 use native.Mathlib.Omega.{arith}
 use lib.Dec.{eqb}
 use lib.ListN.{length, get_or, take, drop}
@@ -11,10 +13,14 @@ use Rattle.slices.specs.Lists.{tabulate, copy_front}
 use Rattle.slices.proofs.Lists.{tabulate-length, tabulate-same, map_table, part_table}
 use Rattle.std.specs.Prelude.{Some, None}
 use Rattle.rbitcoin_mempool.specs.Counted.{count, refused}
-use Rattle.rbitcoin_mempool.specs.Rates.{mark_of, number_of, given}
+use Rattle.std.specs.declared.option.Option as rust
+use Rattle.rbitcoin_mempool.specs.Rates.{given, marked, rate_at, mark_of, number_of, marks_of, numbers_of}
 use Rattle.rbitcoin_mempool.proofs.Scans.{count-refused, count-given}
 use Rattle.rbitcoin_net.specs.declared.fee_history.FeeHistory.{FeeHistory}
-use Rattle.rbitcoin_net.specs.Lent.{Rows, Hashes, row_at, held_rows, hash_at, hashes_in, held_hashes}
+use Rattle.rbitcoin_net.specs.declared.fee_history.HistoricalFeeBlock.{HistoricalFeeBlock}
+use Rattle.rbitcoin_net.specs.Map.{Entry}
+use Rattle.rbitcoin_net.specs.History.{hurdle_of}
+use Rattle.rbitcoin_net.specs.Lent.{Rows, Hashes, rate_of, row_at, held_rows, hash_at, hashes_in, held_hashes}
 use Rattle.rbitcoin_net.specs.Readers.{wrote, key_of, mark_in, number_in, bytes_in, entries_refusal_of, Entries, bytes_of, recent_refusal_of, RecentHashes}
 use Rattle.rbitcoin_net.proofs.Tables.{table-add}
 
@@ -36,13 +42,25 @@ part-written from xs a n e h f g =
     let l : length (tabulate (λ i. get_or from i 0) a n) ≡ n = tabulate-length (λ i. get_or from i 0) a n in
     rw p (rw l (rw (le-leb n (length xs) g)))
 
-mark-is : (b : Bool) (n : ℕ) → cond b 1 0 ≡ mark_of (given (cond b (Some n) None))
-mark-is true n = refl
-mark-is false n = refl
+-- a stored rate, by either definition
+pub given_rate : (mark number : ℕ) → given (rate_of mark number) ≡ marked number mark
+given_rate mark number = go (eqb mark 1)
+  where
+    go : (b : Bool) → given (cond b (Some number) None) ≡ cond b (some number) none
+    go true = refl
+    go false = refl
 
-number_is : (b : Bool) (n : ℕ) → cond b n 0 ≡ number_of (given (cond b (Some n) None))
-number_is true n = refl
-number_is false n = refl
+-- a rate that was read is the stored one
+abbrev back : Option ℕ → rust.Option ℕ
+back (some r) = Some r
+back none = None
+
+back_given : (r : rust.Option ℕ) → back (given r) ≡ r
+back_given (Some r) = refl
+back_given None = refl
+
+pub rate_is : (r : rust.Option ℕ) (mark number : ℕ) → given r ≡ marked number mark → r ≡ rate_of mark number
+rate_is r mark number e = sym (back_given r) ∙ ap back (e ∙ sym (given_rate mark number)) ∙ back_given (rate_of mark number)
 
 module _ (s : FeeHistory) (m o : Rows) where
   -- the columns of the held rows
@@ -54,20 +72,16 @@ module _ (s : FeeHistory) (m o : Rows) where
   unfolding held_rows
   sizes_are = sym (map_table bytes_in (row_at m) s.start s.count)
 
-  marks_are : tabulate (λ i. cond (eqb (get_or m.marks i 0) 1) 1 0) s.start s.count ≡ map mark_in (held_rows m s)
+  rates_are : (f : Option ℕ → ℕ) → map f (tabulate (rate_at m.rates m.marks) s.start s.count) ≡ map (λ e. f (hurdle_of e.value)) (held_rows m s)
   unfolding held_rows
-  marks_are =
-      tabulate-same (λ i. cond (eqb (get_or m.marks i 0) 1) 1 0) (λ i. mark_in (row_at m i)) s.start s.count (λ i l h. mark-is (eqb (get_or m.marks i 0) 1) (get_or m.rates i 0))
-      ∙ sym (map_table mark_in (row_at m) s.start s.count)
+  rates_are f =
+      map_table f (rate_at m.rates m.marks) s.start s.count
+      ∙ tabulate-same (λ i. f (rate_at m.rates m.marks i)) (λ i. f (hurdle_of (row_at m i).value)) s.start s.count (λ i l h. ap f (sym (given_rate (get_or m.marks i 0) (get_or m.rates i 0))))
+      ∙ sym (map_table (λ e. f (hurdle_of e.value)) (row_at m) s.start s.count)
 
-  rates_are : tabulate (λ i. cond (eqb (get_or m.marks i 0) 1) (get_or m.rates i 0) 0) s.start s.count ≡ map number_in (held_rows m s)
+  column : (f : Entry HistoricalFeeBlock → ℕ) → length (map f (held_rows m s)) ≡ s.count
   unfolding held_rows
-  rates_are =
-      tabulate-same (λ i. cond (eqb (get_or m.marks i 0) 1) (get_or m.rates i 0) 0) (λ i. number_in (row_at m i)) s.start s.count (λ i l h. number_is (eqb (get_or m.marks i 0) 1) (get_or m.rates i 0))
-      ∙ sym (map_table number_in (row_at m) s.start s.count)
-
-  column : (f : ℕ → ℕ) (ys : List ℕ) → tabulate f s.start s.count ≡ ys → length ys ≡ s.count
-  column f ys e = ap length (sym e) ∙ tabulate-length f s.start s.count
+  column f = length-map (held_rows m s) f ∙ tabulate-length (row_at m) s.start s.count
 
   pub entries-refused : (k : ℕ) → k ≡ entries_refusal_of s m o → (k ≡ 0 → ⊥) → Entries s m o o (refused k)
   entries-refused k e n =
@@ -83,18 +97,18 @@ module _ (s : FeeHistory) (m o : Rows) where
   -- the four columns written
   pub entries-written : (k : ℕ) (q : Rows) → k ≡ entries_refusal_of s m o → k ≡ 0
       → q.heights ≡ tabulate (λ i. get_or m.heights i 0) s.start s.count ++ drop s.count o.heights
-      → q.marks ≡ tabulate (λ i. cond (eqb (get_or m.marks i 0) 1) 1 0) s.start s.count ++ drop s.count o.marks
-      → q.rates ≡ tabulate (λ i. cond (eqb (get_or m.marks i 0) 1) (get_or m.rates i 0) 0) s.start s.count ++ drop s.count o.rates
+      → q.marks ≡ marks_of (tabulate (rate_at m.rates m.marks) s.start s.count) ++ drop s.count o.marks
+      → q.rates ≡ numbers_of (tabulate (rate_at m.rates m.marks) s.start s.count) ++ drop s.count o.rates
       → q.sizes ≡ tabulate (λ i. get_or m.sizes i 0) s.start s.count ++ drop s.count o.sizes
       → Entries s m o q (count s.count)
   entries-written k q e z h a r b =
       let d : entries_refusal_of s m o ≡ 0 = sym e ∙ z in
       record {
         is = count-given (entries_refusal_of s m o) s.count s.count d refl;
-        heights = h ∙ wrote_all (entries_refusal_of s m o) s.count _ _ o.heights d keys_are (column _ _ keys_are);
-        marks = a ∙ wrote_all (entries_refusal_of s m o) s.count _ _ o.marks d marks_are (column _ _ marks_are);
-        rates = r ∙ wrote_all (entries_refusal_of s m o) s.count _ _ o.rates d rates_are (column _ _ rates_are);
-        sizes = b ∙ wrote_all (entries_refusal_of s m o) s.count _ _ o.sizes d sizes_are (column _ _ sizes_are);
+        heights = h ∙ wrote_all (entries_refusal_of s m o) s.count _ _ o.heights d keys_are (column key_of);
+        marks = a ∙ wrote_all (entries_refusal_of s m o) s.count _ _ o.marks d (rates_are mark_of) (column mark_in);
+        rates = r ∙ wrote_all (entries_refusal_of s m o) s.count _ _ o.rates d (rates_are number_of) (column number_in);
+        sizes = b ∙ wrote_all (entries_refusal_of s m o) s.count _ _ o.sizes d sizes_are (column bytes_in);
       }
 
 -- ---- `recent_hashes`

@@ -1,12 +1,12 @@
 -- What the refusals leave, by the tests that they are made of. Assumes nothing.
-use Prim.Native.Nat.{ℕ, ◌+◌, ◌*◌, ◌≤◌, ◌<◌}
+use Prim.Native.Nat.{ℕ, ◌+◌, ◌*◌, ◌≤◌}
 use mathlib.Core.Path.{◌≡◌, refl, sym, ◌∙◌, ap}
 use mathlib.Core.Logic.{⊎_elim}
 use mathlib.Core.Bool.{Bool, true, false, cond}
 use native.Mathlib.Omega.{arith}
 use lib.Dec.{ltb, eqb}
 use lib.ListN.{length}
-use borrow.Author.Tests.{lt-ltb, le-ltb, ltb-false, eq-eqb, eqb-true}
+use borrow.Author.Tests.{le-ltb, ltb-false, eqb-true}
 use Rattle.rbitcoin_mempool.specs.declared.fee_analog.history.AnalogHistory.{AnalogHistory}
 use Rattle.rbitcoin_mempool.specs.Reached.{SetUpAs as WindowsSetUpAs}
 use Rattle.rbitcoin_mempool.specs.Windows.{or_else, Valid}
@@ -20,14 +20,6 @@ use Rattle.rbitcoin_net.specs.Readers.{entries_refusal, recent_refusal}
 use Rattle.rbitcoin_net.specs.declared.fee_history.FeeHistory.{FeeHistory}
 
 module _ (s : FeeHistory) (w : ℕ) (e : w ≡ windows_refusal s.analog) (z : w ≡ 0) where
-  pub state-full : s.analog.capacity < s.start + s.count → 5 ≡ state_refusal s
-  unfolding state_refusal
-  state-full h = then_second _ _ w 5 e z (sym (rw (lt-ltb _ _ h)))
-
-  pub state-hashes : s.start + s.count ≤ s.analog.capacity → 144 < s.hashes → 5 ≡ state_refusal s
-  unfolding state_refusal
-  state-hashes g h = then_second _ _ w 5 e z (sym (rw (le-ltb _ _ g, lt-ltb _ _ h)))
-
   pub state_taken : s.start + s.count ≤ s.analog.capacity → s.hashes ≤ 144 → 0 ≡ state_refusal s
   unfolding state_refusal
   state_taken g h = then_second _ _ w 0 e z (sym (rw (le-ltb _ _ g, le-ltb _ _ h)))
@@ -75,7 +67,6 @@ reach c h m r z e =
     record { heights = ltb-false _ _ a.0; marks = ltb-false _ _ b.0; rates = ltb-false _ _ d.0; sizes = ltb-false _ _ f.0 }
 
 pub hash-reach : (h b : ℕ) → hashes_refusal h b ≡ 0 → (144 ≤ h) × (4608 ≤ b)
-unfolding hashes_refusal
 hash-reach h b e =
     let a = passed _ _ e in
     (ltb-false _ _ a.0, ltb-false _ _ (passed _ _ a.1).0)
@@ -200,7 +191,7 @@ serves s m e =
     record { rows-within = w.rows; hashes-few = w.hashes; rows-reach = reach _ _ _ _ _ p.rows; heights-reach = k.0; bytes-reach = k.1; windows = windows_valid s m e }
 
 pub serves-lent : (s : FeeHistory) (m : Lent) → Serves s m → lent_refusal s m ≡ 0
-unfolding rows_refusal hashes_refusal windows_size_refusal
+unfolding rows_refusal windows_size_refusal
 serves-lent s m v =
     let r = v.rows-reach in
     let w = v.windows in
@@ -219,10 +210,6 @@ windows_taken s n e = (both_zero (windows_refusal s.analog) _ (both_zero (state_
 
 -- `rates`: after the output lists and the rows; and what it leaves where it refuses nothing
 module _ (s : FeeHistory) (h m r z u b a x n o : ℕ) where
-  pub rates-from : (q k : ℕ) → n ≡ o → q ≡ or_else (state_refusal s) (rows_refusal s.analog.capacity h m r z) → q ≡ 0 → k ≡ or_else (windows_size_refusal s.analog u b a) (cond (ltb x s.analog.capacity) 5 (cond (ltb n s.analog.tracked) 5 0)) → k ≡ rates_refusal s h m r z u b a x n o
-  unfolding rates_refusal
-  rates-from q k same e t d = then_second (cond (eqb n o) 0 1) _ 0 k (sym (rw (eq-eqb n o same))) refl (then_second _ _ q k e t d)
-
   pub record RatesFit : Type 0 where
     pub state : state_refusal s ≡ 0
     pub rows : Reach (s.start + s.count) h m r z

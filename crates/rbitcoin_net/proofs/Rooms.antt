@@ -7,7 +7,7 @@ use native.Mathlib.Omega.{arith}
 use lib.Dec.{ltb, eqb}
 use lib.ListN.{length, get_or, set, length-set}
 use lib.Seq.{get_or-set_same, get_or-set_other}
-use borrow.Author.Tests.{le-leb, lt-leb, lt-ltb, le-ltb, eq-eqb, ne_eqb, eqb-false}
+use borrow.Author.Tests.{le-leb, lt-leb, eqb-false}
 use Rattle.slices.specs.Lists.{tabulate, moved, copy_within}
 use Rattle.slices.proofs.Runs.{copied, length_moved, moved-below, moved_in, moved-above}
 use Rattle.rbitcoin_net.specs.Rooms.{row_put, free_of, start_with, Stored, stored, hold_at, Roomy}
@@ -16,9 +16,7 @@ use Rattle.std.specs.Prelude.{Some, None}
 use Rattle.rbitcoin_mempool.specs.Rates.{given, mark_of, number_of}
 use Rattle.rbitcoin_net.specs.Map.{entry, Ascends, insert}
 use Rattle.rbitcoin_net.specs.History.{hurdle_of}
-use Rattle.rbitcoin_net.specs.Lent.{Rows, rows, rate_of, row_at, held_rows}
-use Rattle.rbitcoin_net.specs.Cuts.{with_rows, with_sums}
-use Rattle.num.specs.Word.{saturating_add}
+use Rattle.rbitcoin_net.specs.Lent.{Rows, rate_of, row_at, held_rows}
 use Rattle.rbitcoin_net.specs.Search.{place_of, is_held}
 use Rattle.rbitcoin_net.specs.declared.fee_history.HistoricalFeeBlock.{HistoricalFeeBlock}
 use Rattle.rbitcoin_net.proofs.Search.{place_parts, is-at-false}
@@ -113,26 +111,6 @@ module _ {A : Type 0} (xs : List A) (from to q r : ℕ) (source : from + q + r �
         (get_or-set_other (moved low (to + q + 1) (from + q) r) (to + q) (to + q + 1 + i) v z ne
         ∙ moved_in low (to + q + 1) (from + q) r z (omega arith) (omega arith) i l
         ∙ moved-above xs to from q z (omega arith) (omega arith) (from + q + i) (omega arith)))
-
--- where the rows start then, by the code's branches
-module _ (s : FeeHistory) (q : ℕ) where
-  module _ (near : q < s.count - q) where
-    pub start-none-before : s.start ≡ 0 → free_of s - free_of s / 4 - 1 ≡ start_with s q
-    unfolding start_with
-    start-none-before e = rw (lt-ltb _ _ near, eq-eqb _ _ e)
-
-    pub start-before : (s.start ≡ 0 → ⊥) → s.start - 1 ≡ start_with s q
-    unfolding start_with
-    start-before n = rw (lt-ltb _ _ near, ne_eqb _ _ n)
-
-  module _ (far : s.count - q ≤ q) where
-    pub start-none-behind : s.start + s.count ≡ s.analog.capacity → free_of s / 4 ≡ start_with s q
-    unfolding start_with
-    start-none-behind e = rw (le-ltb _ _ far, eq-eqb _ _ e)
-
-    pub start-stays : (s.start + s.count ≡ s.analog.capacity → ⊥) → s.start ≡ start_with s q
-    unfolding start_with
-    start-stays n = rw (le-ltb _ _ far, ne_eqb _ _ n)
 
 -- ---- the held rows with one more
 
@@ -234,13 +212,3 @@ hold-view h b s m q p asc e t =
     held-rows q h b s m p
     ∙ (λ j. tabulate (row_at m) s.start (e j) ++ entry h b ∷ tabulate (row_at m) (u j) (v j))
     ∙ sym (absent-insert h b s m asc t)
-
--- the code's four lists and state
-pub held_at : (q h : ℕ) (b : HistoricalFeeBlock) (s : FeeHistory) (hs ms rs zs hs' ms' rs' zs' : List ℕ) (to mark number total : ℕ) → to ≡ start_with s q → mark ≡ mark_of (hurdle_of b) → number ≡ number_of (hurdle_of b) → total ≡ saturating_add s.txstat_bytes b.txstat_bytes
-    → hs' ≡ row_put s.start to q (s.count - q) h hs → ms' ≡ row_put s.start to q (s.count - q) mark ms → rs' ≡ row_put s.start to q (s.count - q) number rs → zs' ≡ row_put s.start to q (s.count - q) b.txstat_bytes zs
-    → stored (with_rows to (s.count + 1) (with_sums s.analog total s)) (rows hs' ms' rs' zs') ≡ hold_at q h b (stored s (rows hs ms rs zs))
-unfolding hold_at
-held_at q h b s hs ms rs zs hs' ms' rs' zs' to mark number total a k n d e f g i =
-    let r = s.count - q in
-    (λ j. stored (with_rows to (s.count + 1) (with_sums s.analog total s)) (rows (e j) (f j) (g j) (i j)))
-    ∙ (λ j. stored (with_rows (a j) (s.count + 1) (with_sums s.analog (d j) s)) (rows (row_put s.start (a j) q r h hs) (row_put s.start (a j) q r (k j) ms) (row_put s.start (a j) q r (n j) rs) (row_put s.start (a j) q r b.txstat_bytes zs)))

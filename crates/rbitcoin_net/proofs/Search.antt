@@ -1,5 +1,5 @@
--- The binary search: its turns, its bounds, and what it finds where heights ascend. Assumes nothing.
-use Prim.Native.Nat.{ℕ, zero, suc, ◌+◌, ◌-◌, ◌/◌, ◌≤◌, ◌<◌}
+-- What the binary search finds where heights ascend. Assumes nothing.
+use Prim.Native.Nat.{ℕ, zero, suc, ◌+◌, ◌-◌, ◌≤◌, ◌<◌}
 use mathlib.Core.Bool.{Bool, true, false, cond, ◌&&◌}
 use mathlib.Core.List.{List}
 use mathlib.Core.Option.{Option, none, some}
@@ -7,37 +7,16 @@ use mathlib.Core.Path.{◌≡◌, refl, sym, ◌∙◌, ap}
 use native.Mathlib.Omega.{arith}
 use lib.Dec.{ltb, eqb}
 use lib.ListN.{get_or}
-use borrow.Author.Tests.{lt-ltb, le-ltb, ltb-true, ltb-false, eq-eqb, eqb-true}
+use borrow.Author.Tests.{lt-ltb, ltb-true, ltb-false, eq-eqb, eqb-true}
 use Rattle.slices.specs.Lists.{tabulate}
+use Rattle.slices.proofs.Bisect.{mid}
 use Rattle.rbitcoin_net.specs.declared.fee_history.HistoricalFeeBlock.{HistoricalFeeBlock}
 use Rattle.rbitcoin_net.specs.declared.fee_history.FeeHistory.{FeeHistory}
 use Rattle.rbitcoin_net.specs.Map.{Ascends, get, is_some, contains_key}
 use Rattle.rbitcoin_net.specs.Lent.{Rows, row_at, block_at, held_rows, rows_refusal_of}
-use Rattle.rbitcoin_net.specs.Search.{bisect, place_of, is_at, is_held, Looked, block, nothing, refused, looked_of, looked_after, look_up_in, get_in, Gets}
+use Rattle.slices.specs.Search.{bisect}
+use Rattle.rbitcoin_net.specs.Search.{place_of, is_at, is_held, Looked, block, nothing, refused, looked_of, looked_after, look_up_in, get_in, Gets}
 use Rattle.rbitcoin_net.proofs.Tables.{either, not-both, Parts, Rising, ascends-at, ascends_rising, get_none, get-found}
-
-abbrev pub mid : ℕ → ℕ → ℕ
-mid a b = a + (b - a) / 2
-
--- k turns suffice from a to b, and what they find is p
-abbrev pub Turns : List ℕ → ℕ → ℕ → ℕ → ℕ → Type 0
-Turns hs h a b p = (k : ℕ) × (b - a ≤ k) × (bisect k hs h a b ≡ p)
-
-module _ (hs : List ℕ) (h a b p : ℕ) where
-  pub go_right : a < b → Turns hs h a b p → get_or hs (mid a b) 0 < h → Turns hs h (mid a b + 1) b p
-  unfolding bisect
-  go_right more (zero, l, e) low = absurd (omega arith)
-  go_right more (suc k, l, e) low = (k, omega arith, simp (lt-ltb a b more, lt-ltb (get_or hs (mid a b) 0) h low) at e)
-
-  pub go_left : a < b → Turns hs h a b p → h ≤ get_or hs (mid a b) 0 → Turns hs h a (mid a b) p
-  unfolding bisect
-  go_left more (zero, l, e) high = absurd (omega arith)
-  go_left more (suc k, l, e) high = (k, omega arith, simp (lt-ltb a b more, le-ltb (get_or hs (mid a b) 0) h high) at e)
-
-  pub ended : b ≤ a → Turns hs h a b p → a ≡ p
-  unfolding bisect
-  ended l (zero, _, e) = e
-  ended l (suc k, _, e) = simp (le-ltb a b l) at e
 
 -- a list's element at a place
 abbrev pub at : List ℕ → ℕ → ℕ

@@ -1,7 +1,7 @@
 -- The map's operations on a list that is given by its places: which places lie below a key, at it, and above. Assumes nothing.
 use Prim.Native.Nat.{ℕ, zero, suc, ◌+◌, ◌-◌, ◌≤◌, ◌<◌}
 use mathlib.Core.Bool.{Bool, true, false, cond}
-use mathlib.Core.List.{List, [], ◌∷◌, ◌++◌, append-nil}
+use mathlib.Core.List.{List, [], ◌∷◌, ◌++◌, map, append-nil}
 use mathlib.Core.Logic.{inl, inr}
 use mathlib.Core.Option.{none, some}
 use mathlib.Core.Path.{◌≡◌, refl, sym, ◌∙◌, ap}
@@ -12,7 +12,7 @@ use lib.ListN.{length, get_or, set, take, drop}
 use lib.Seq.{take_all}
 use borrow.Author.Tests.{lt-ltb, le-ltb, le-leb, lt-leb, eq-eqb, ne_eqb, ltb-true, ltb-false}
 use Rattle.slices.specs.Lists.{tabulate}
-use Rattle.slices.proofs.Lists.{tabulate-length}
+use Rattle.slices.proofs.Lists.{tabulate-length, map_table}
 use Rattle.slices.proofs.Runs.{front_turn}
 use Rattle.rbitcoin_net.specs.Map.{Entry, entry, Above, Ascends, retain, below, above, onward, get, remove, insert}
 
@@ -77,17 +77,27 @@ table_at f d a zero k h = absurd (omega arith)
 table_at f d a (suc n) zero h = let e : a + 0 ≡ a = omega arith in rw e
 table_at f d a (suc n) (suc k) h = let e : a + suc k ≡ suc a + k = omega arith in rw e (table_at f d (suc a) n k (omega arith))
 
--- a table written to the front of a list: one more element, and all
-module _ (f : ℕ → ℕ) (a n : ℕ) (xs : List ℕ) (fits : n ≤ length xs) where
-  pub table_turn : (zs : List ℕ) (i v : ℕ) → i < n → v ≡ f (a + i) → zs ≡ take i (tabulate f a n) ++ drop i xs → set zs i v ≡ take (i + 1) (tabulate f a n) ++ drop (i + 1) xs
-  table_turn zs i v l e z =
-      let m : length (tabulate f a n) ≡ n = tabulate-length f a n in
-      ap (set zs i) (e ∙ sym (table_at f 0 a n i l)) ∙ front_turn xs (tabulate f a n) zs i 0 (omega arith) (omega arith) z
+-- of each element of a table a number, written to the front of a list: one more, and all
+module _ {A : Type 0} (g : A → ℕ) (f : ℕ → A) (a n : ℕ) (xs : List ℕ) (fits : n ≤ length xs) where
+  abbrev numbers : List ℕ
+  numbers = map g (tabulate f a n)
 
-  pub table_done : (zs : List ℕ) (i : ℕ) → i ≡ n → zs ≡ take i (tabulate f a n) ++ drop i xs → zs ≡ tabulate f a n ++ drop n xs
+  numbers-long : length numbers ≡ n
+  numbers-long = ap length (map_table g f a n) ∙ tabulate-length (λ k. g (f k)) a n
+
+  number_at : (i : ℕ) → i < n → get_or numbers i 0 ≡ g (f (a + i))
+  number_at i l = ap (λ ys. get_or ys i 0) (map_table g f a n) ∙ table_at (λ k. g (f k)) 0 a n i l
+
+  pub table_turn : (zs : List ℕ) (i v : ℕ) → i < n → v ≡ g (f (a + i)) → zs ≡ take i (map g (tabulate f a n)) ++ drop i xs
+      → set zs i v ≡ take (i + 1) (map g (tabulate f a n)) ++ drop (i + 1) xs
+  table_turn zs i v l e z =
+      let m = numbers-long in
+      ap (set zs i) (e ∙ sym (number_at i l)) ∙ front_turn xs numbers zs i 0 (omega arith) (omega arith) z
+
+  pub table_done : (zs : List ℕ) (i : ℕ) → i ≡ n → zs ≡ take i (map g (tabulate f a n)) ++ drop i xs → zs ≡ map g (tabulate f a n) ++ drop n xs
   table_done zs i e z =
-      let m : length (tabulate f a n) ≡ n = tabulate-length f a n in
-      z ∙ ap (λ k. take k (tabulate f a n) ++ drop k xs) e ∙ ap (λ l. l ++ drop n xs) (take_all n (tabulate f a n) (omega arith))
+      let m = numbers-long in
+      z ∙ ap (λ k. take k numbers ++ drop k xs) e ∙ ap (λ l. l ++ drop n xs) (take_all n numbers (omega arith))
 
 module _ {A : Type 0} (t : Entry A → Bool) where
   pub retain_append : (xs ys : List (Entry A)) → retain t (xs ++ ys) ≡ retain t xs ++ retain t ys

@@ -3,7 +3,8 @@ use Rattle.std.specs.Prelude.{ℕ, ◌+◌, ◌-◌, ◌*◌, ◌≤◌, ◌≡�
 use Rattle.std.proofs.Math.Option.{Option, none, some}
 use Rattle.slices.specs.Lists.{moved}
 use Rattle.rbitcoin_net.specs.Lent.{Hashes, hashes}
-use Rattle.rbitcoin_net.specs.Search.{bisect, is_at}
+use Rattle.slices.specs.Search.{bisect}
+use Rattle.rbitcoin_net.specs.Search.{is_at}
 use Rattle.std.specs.Prelude.{Some, None}
 use Rattle.std.specs.declared.option.Option as rust
 use Rattle.rbitcoin_net.specs.declared.fee_history.block_hash.BlockHash.{BlockHash}

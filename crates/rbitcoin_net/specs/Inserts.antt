@@ -4,10 +4,9 @@ use Rattle.std.proofs.Math.Option.{Option, none, some}
 use Rattle.rbitcoin_mempool.specs.declared.fee_analog.history.AnalogHistory.{AnalogHistory}
 use Rattle.rbitcoin_mempool.specs.Outcome.{Verdict, verdict_of}
 use Rattle.rbitcoin_mempool.specs.Windows.{Windows, or_else, push_back_of, push_front_of}
-use Rattle.rbitcoin_mempool.specs.Windows.{size_refusal as windows_size_refusal}
 use Rattle.rbitcoin_net.specs.Map.{is_some, below, contains_key}
 use Rattle.rbitcoin_net.specs.History.{hurdle_of, insert_of, insert_if_absent_of}
-use Rattle.rbitcoin_net.specs.Lent.{Rows, Hashes, Lent, lent, windows_of, view, Sound, state_refusal, rows_refusal, hashes_refusal, lent_refusal}
+use Rattle.rbitcoin_net.specs.Lent.{Rows, Hashes, Lent, lent, windows_of, view, Sound, lent_refusal}
 use Rattle.rbitcoin_net.specs.Search.{place_of, is_held}
 use Rattle.rbitcoin_net.specs.Hashes.{hash_list, note_hash_in}
 use Rattle.rbitcoin_net.specs.Cuts.{with_hashes, unkept, drop_from}
@@ -15,12 +14,6 @@ use Rattle.rbitcoin_net.specs.Rooms.{stored, hold_at}
 use Rattle.rbitcoin_net.specs.Evictions.{hashed, evict_in}
 use Rattle.rbitcoin_net.specs.declared.fee_history.HistoricalFeeBlock.{HistoricalFeeBlock}
 use Rattle.rbitcoin_net.specs.declared.fee_history.FeeHistory.{FeeHistory}
-
--- of a call that lends all, by the lists' lengths
-unfoldable pub sizes_refusal : FeeHistory → ℕ → ℕ → ℕ → ℕ → ℕ → ℕ → ℕ → ℕ → ℕ → ℕ
-sizes_refusal s h m r z zh zb u b a =
-    or_else (or_else (state_refusal s) (rows_refusal s.analog.capacity h m r z))
-    (or_else (hashes_refusal zh zb) (windows_size_refusal s.analog u b a))
 
 -- "4: a connect when the held heights below it already fill the capacity", after 5
 unfoldable pub insert_refusal : ℕ → FeeHistory → Lent → ℕ

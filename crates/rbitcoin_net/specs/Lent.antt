@@ -100,7 +100,7 @@ state_refusal s = or_else (windows_refusal s.analog) (cond (ltb s.analog.capacit
 unfoldable pub rows_refusal : ℕ → ℕ → ℕ → ℕ → ℕ → ℕ
 rows_refusal c h m r z = cond (ltb h c) 5 (cond (ltb m c) 5 (cond (ltb r c) 5 (cond (ltb z c) 5 0)))
 
-unfoldable pub hashes_refusal : ℕ → ℕ → ℕ
+abbrev pub hashes_refusal : ℕ → ℕ → ℕ
 hashes_refusal h b = cond (ltb h 144) 5 (cond (ltb b 4608) 5 0)
 
 -- of a call that lends the rows alone, after the state's

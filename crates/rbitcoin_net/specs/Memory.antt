@@ -1,14 +1,11 @@
 -- What is lent to a history, as the definitions see it. Definitions only.
-use Rattle.std.specs.Prelude.{◌≡◌, length}
+use Rattle.std.specs.Prelude.{◌≡◌}
 use Rattle.rbitcoin_mempool.specs.declared.fee_analog.memory.WindowMemory.{WindowMemory}
 use Rattle.rbitcoin_mempool.specs.declared.fee_analog.memory.WindowLists.{WindowLists}
-use Rattle.rbitcoin_mempool.specs.Memory.{SameLent}
 use Rattle.rbitcoin_net.specs.declared.fee_history.memory.RowMemory.{RowMemory}
 use Rattle.rbitcoin_net.specs.declared.fee_history.memory.HashMemory.{HashMemory}
 use Rattle.rbitcoin_net.specs.declared.fee_history.memory.RowLists.{RowLists}
 use Rattle.rbitcoin_net.specs.declared.fee_history.memory.HashLists.{HashLists}
-use Rattle.rbitcoin_net.specs.declared.fee_history.memory.RowSizes.{RowSizes}
-use Rattle.rbitcoin_net.specs.declared.fee_history.memory.HashSizes.{HashSizes}
 use Rattle.rbitcoin_net.specs.declared.fee_history.FeeHistory.{FeeHistory}
 use Rattle.rbitcoin_net.specs.Lent.{Rows, rows, Hashes, hashes, Lent, lent}
 use Rattle.rbitcoin_net.specs.Inserts.{Whole, whole}
@@ -40,20 +37,8 @@ whole_of s m z w = whole s (lent_of m z w)
 abbrev pub rated_of : FeeHistory → WindowMemory → Rated
 rated_of s w = rated s w.hurdles.now w.befores.now w.aheads.now
 
--- how long they are
-abbrev pub row_sizes_of : RowMemory → RowSizes
-row_sizes_of m =
-    record { heights = length m.heights.now; marks = length m.marks.now; rates = length m.rates.now; sizes = length m.sizes.now }
-
-abbrev pub row_sizes_seen : RowLists → RowSizes
-row_sizes_seen m =
-    record { heights = length m.heights.now; marks = length m.marks.now; rates = length m.rates.now; sizes = length m.sizes.now }
-
-abbrev pub hash_sizes_of : HashMemory → HashSizes
-hash_sizes_of m = record { heights = length m.heights.now; bytes = length m.bytes.now }
-
-abbrev pub hash_sizes_seen : HashLists → HashSizes
-hash_sizes_seen m = record { heights = length m.heights.now; bytes = length m.bytes.now }
+abbrev pub rated_seen : FeeHistory → WindowLists → Rated
+rated_seen s w = rated s w.hurdles.now w.befores.now w.aheads.now
 
 -- the lists are still those that the caller lent
 abbrev pub SameRows : RowMemory → RowMemory → Type 0

@@ -1,6 +1,7 @@
 -- The place of a height among the held rows, and `get`, for every state and memory. Definitions only.
-use Rattle.std.specs.Prelude.{ℕ, zero, suc, ◌+◌, ◌-◌, ◌/◌, ◌≡◌, Bool, cond, ◌&&◌, List, ltb, eqb, get_or}
+use Rattle.std.specs.Prelude.{ℕ, zero, suc, ◌+◌, ◌≡◌, Bool, cond, ◌&&◌, List, ltb, eqb, get_or}
 use Rattle.std.proofs.Math.Option.{Option, none, some}
+use Rattle.slices.specs.Search.{bisect}
 use Rattle.rbitcoin_net.specs.Map.{Ascends, get}
 use Rattle.rbitcoin_net.specs.Lent.{Rows, block_at, held_rows, rows_refusal_of}
 use Rattle.rbitcoin_net.specs.declared.fee_history.HistoricalFeeBlock.{HistoricalFeeBlock}
@@ -11,13 +12,7 @@ use Rattle.std.specs.declared.result.Result.{Result}
 use Rattle.rbitcoin_mempool.specs.declared.answer.Refusal.{Refusal}
 use Rattle.rbitcoin_mempool.specs.Refusal.{number}
 
--- binary search from lo to hi in k turns; where heights ascend, the first place whose height is at least h
-unfoldable pub bisect : ℕ → List ℕ → ℕ → ℕ → ℕ → ℕ
-bisect zero hs h lo hi = lo
-bisect (suc k) hs h lo hi =
-    let mid = lo + (hi - lo) / 2 in
-    cond (ltb lo hi) (cond (ltb (get_or hs mid 0) h) (bisect k hs h (mid + 1) hi) (bisect k hs h lo mid)) lo
-
+-- the place of a height
 unfoldable pub place_of : List ℕ → FeeHistory → ℕ → ℕ
 place_of hs s h = bisect s.count hs h s.start (s.start + s.count)
 

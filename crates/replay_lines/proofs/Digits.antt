@@ -7,9 +7,9 @@ by : (P : ℕ → Type 0) (t : Bool) (a b : ℕ) → (t ≡ true → P a) → (t
 by P true a b h k = h refl
 by P false a b h k = k refl
 
-pub hex-small : (b : ℕ) → hex_digit b < 16
+pub hex_small : (b : ℕ) → hex_digit b < 16
 unfolding hex_digit
-hex-small b =
+hex_small b =
     by (λ (n : ℕ). n < 16) (ltb b 48) 0 _ (λ h. lit< tt)
     (λ h0. by (λ (n : ℕ). n < 16) (ltb b 58) (b - 48) _ (λ h. omega (arith, ltb-true b 58 h))
     (λ h1. by (λ (n : ℕ). n < 16) (ltb b 97) 0 _ (λ h. lit< tt)

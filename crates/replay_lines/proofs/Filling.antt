@@ -1,5 +1,5 @@
 -- One more read into what a buffer has room for. Assumes nothing.
-use Rattle.std.proofs.Common.{◌≡◌, ℕ, ◌+◌, ◌≤◌, List, ◌++◌, length, take, Option, ap, ◌∙◌, subst, sym, arith}
+use Rattle.std.proofs.Common.{◌≡◌, ℕ, ◌+◌, ◌≤◌, List, ◌++◌, length, take, Option, ap, ◌∙◌, subst, sym}
 use Rattle.std.proofs.Math.Seq.{take-append-add}
 use Rattle.std.proofs.lemmas.List.{take-append-le}
 use Rattle.std.specs.Io.KnownBytes.{Consumes}
@@ -19,11 +19,3 @@ pub read_more : (had left rest : Option (List ℕ)) (xs ys : List ℕ) (n m k : 
     → Consumes had left (take n xs) → Consumes left rest (take k ys) → Consumes had rest (take (n + k) (put_mid n m xs ys))
 read_more had left rest xs ys n m k h g p q =
     subst (λ (l : List ℕ). Consumes had rest l) (sym (front_and_read xs ys n m k h g)) (Consumes-trans had left rest (take n xs) (take k ys) p q)
-
--- a read that gave nothing
-pub read_none : (had left rest : Option (List ℕ)) (xs ys : List ℕ) (n m k : ℕ) → n ≤ length xs → k ≡ 0
-    → Consumes had left (take n xs) → Consumes left rest (take k ys) → Consumes had rest (take n (put_mid n m xs ys))
-read_none had left rest xs ys n m k h z p q =
-    let e : n + k ≡ n = omega arith in
-    let g : k ≤ length ys = omega arith in
-    subst (λ (i : ℕ). Consumes had rest (take i (put_mid n m xs ys))) e (read_more had left rest xs ys n m k h g p q)

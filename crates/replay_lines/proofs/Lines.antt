@@ -15,18 +15,18 @@ pick : (P : List ℕ → Type 0) (t : Bool) (a b : List ℕ) → P a → P b →
 pick P true a b h k = h
 pick P false a b h k = k
 
-pub up-to_takes : (b : ℕ) (s : List ℕ) → take (length (up_to b s)) s ≡ up_to b s
+pub up_to_takes : (b : ℕ) (s : List ℕ) → take (length (up_to b s)) s ≡ up_to b s
 unfolding up_to
-up-to_takes b [] = refl
-up-to_takes b (x ∷ s) = pick (λ (l : List ℕ). take (length l) (x ∷ s) ≡ l) (eqb x b) [] (x ∷ up_to b s) refl (ap (λ (l : List ℕ). x ∷ l) (up-to_takes b s))
+up_to_takes b [] = refl
+up_to_takes b (x ∷ s) = pick (λ (l : List ℕ). take (length l) (x ∷ s) ≡ l) (eqb x b) [] (x ∷ up_to b s) refl (ap (λ (l : List ℕ). x ∷ l) (up_to_takes b s))
 
 pub up_to_fits : (b : ℕ) (s : List ℕ) → length (up_to b s) ≤ length s
-up_to_fits b s = omega (arith, simp length-take at (ap length (up-to_takes b s)))
+up_to_fits b s = omega (arith, simp length-take at (ap length (up_to_takes b s)))
 
 -- a first place that is found, or else the length, is how many bytes stand before b
-pub up_to-first : (b : ℕ) (s : List ℕ) (r : Option ℕ) → MatchOption r (AllWithin (λ x. x ≡ b → ⊥) s 0 (length s)) (λ i. (i < length s) × HoldsAt (λ x. x ≡ b) s i × AllWithin (λ x. x ≡ b → ⊥) s 0 i) → length (up_to b s) ≡ unwrap_or r (length s)
+pub up_to_first : (b : ℕ) (s : List ℕ) (r : Option ℕ) → MatchOption r (AllWithin (λ x. x ≡ b → ⊥) s 0 (length s)) (λ i. (i < length s) × HoldsAt (λ x. x ≡ b) s i × AllWithin (λ x. x ≡ b → ⊥) s 0 i) → length (up_to b s) ≡ unwrap_or r (length s)
 unfolding up_to
-up_to-first b s r h =
+up_to_first b s r h =
     index_from_first (λ l. length (up_to b l)) (λ x. x ≡ b) (λ x. x ≡ b → ⊥) refl
     (λ x xs e. rw (eq-eqb x b e))
     (λ x xs e. rw (ne_eqb x b e, add-one))
@@ -45,14 +45,14 @@ lines-first x [] = cut (eqb x 10) x [] [] refl refl
 lines-first x (y ∷ s) =
     cut (eqb x 10) x (y ∷ s) (drop (length (up_to 10 (y ∷ s)) + 1) (y ∷ s)) (rw (lines-first y s)) refl
 
-pub lines-none : (s : List ℕ) → length s ≡ 0 → lines_of s ≡ []
+pub lines_none : (s : List ℕ) → length s ≡ 0 → lines_of s ≡ []
 unfolding lines_of
-lines-none [] e = refl
-lines-none (x ∷ s) e = let none : ⊥ = omega (arith, e) in absurd none
+lines_none [] e = refl
+lines_none (x ∷ s) e = let none : ⊥ = omega (arith, e) in absurd none
 
-pub lines-more : (s : List ℕ) → 0 < length s → lines_of s ≡ up_to 10 s ∷ lines_of (drop (length (up_to 10 s) + 1) s)
-lines-more [] h = absurd (not-suc-le-zero h)
-lines-more (x ∷ s) h = lines-first x s
+pub lines_more : (s : List ℕ) → 0 < length s → lines_of s ≡ up_to 10 s ∷ lines_of (drop (length (up_to 10 s) + 1) s)
+lines_more [] h = absurd (not-suc-le-zero h)
+lines_more (x ∷ s) h = lines-first x s
 
 -- the line that starts at a place, and those that start after it
 pub lines-at : (s : List ℕ) (at : ℕ) → at < length s → lines_of (drop at s) ≡ up_to 10 (drop at s) ∷ lines_of (drop (after_line s at) s)
@@ -60,4 +60,4 @@ unfolding after_line
 lines-at s at h =
     let rest : drop (length (up_to 10 (drop at s)) + 1) (drop at s) ≡ drop (at + length (up_to 10 (drop at s)) + 1) s =
     drop-drop (length (up_to 10 (drop at s)) + 1) at s ∙ ap (λ (n : ℕ). drop n s) (omega arith) in
-    rw (lt-ltb at (length s) h, ← rest) (lines-more (drop at s) (simp length-drop (omega arith)))
+    rw (lt-ltb at (length s) h, ← rest) (lines_more (drop at s) (simp length-drop (omega arith)))

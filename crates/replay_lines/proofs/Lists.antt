@@ -3,11 +3,13 @@ use Rattle.std.proofs.Common.{◌≡◌, ℕ, zero, suc, ◌+◌, ◌*◌, ◌<�
 use native.Mathlib.Numerals.{unary_clauses}
 use lib.ListN.{length-map, get_or-map}
 use lib.Seq.{take-nil}
+use Rattle.std.proofs.lemmas.List.{map_more, take-map, take_all}
 use Rattle.replay_lines.specs.Hex.{hex_of}
 use Rattle.replay_lines.specs.Lines.{words_of}
 use Rattle.replay_lines.specs.Digest.{mixed, mixed_all}
 use Rattle.replay_lines.specs.Lists.{over}
-use Rattle.replay_lines.proofs.Lines.{past}
+use Rattle.replay_lines.proofs.Digits.{hex-drop}
+use Rattle.replay_lines.proofs.Lines.{past, up_to_fits}
 
 pub over-one : {A : Type 0} (d : A) (xs out : List A) (i : ℕ) → i < length xs → i < length out → set (over (take i xs) out) i (get_or xs i d) ≡ over (take (suc i) xs) out
 unfolding over
@@ -16,19 +18,23 @@ over-one d (x ∷ xs) [] i h k = absurd (not-suc-le-zero k)
 over-one d (x ∷ xs) (y ∷ out) zero h k = refl
 over-one {A} d (x ∷ xs) (y ∷ out) (suc i) h k = ap (λ (l : List A). x ∷ l) (over-one d xs out i (le_of_suc-le-suc h) (le_of_suc-le-suc k))
 
+pub over_length : {A : Type 0} (xs out : List A) → length (over xs out) ≡ length out
+unfolding over
+over_length [] out = refl
+over_length (x ∷ xs) [] = refl
+over_length (x ∷ xs) (y ∷ out) = ap suc (over_length xs out)
+
 pub over_all : {A : Type 0} (xs out : List A) → over (take (min (length xs) (length out)) xs) out ≡ over xs out
 unfolding over
 over_all {A} [] out = rw (take-nil {A = A} (min 0 (length out)))
 over_all (x ∷ xs) [] = simp unary_clauses
 over_all {A} (x ∷ xs) (y ∷ out) = simp unary_clauses (ap (λ (l : List A). x ∷ l) (over_all xs out))
 
--- a list's elements by f put over another's: one more, and all
-module _ {A : Type 0} (f : ℕ → A) (xs : List ℕ) (out ys : List A) (i : ℕ) (e : ys ≡ over (take i (map f xs)) out) where
-  pub put_one : i < length xs → i < length out → set ys i (f (get_or xs i 0)) ≡ over (take (i + 1) (map f xs)) out
-  put_one h k = rw (add-one, e, ← get_or-map f xs i 0) (over-one (f 0) (map f xs) out i (omega (arith, length-map xs f)) k)
+-- the first elements of a list by f: one more, and all
+pub all_lows : {A : Type 0} (f : ℕ → A) (xs : List ℕ) (n i : ℕ) → length (take n xs) ≤ i → map f (take i (take n xs)) ≡ take n (map f xs)
+all_lows f xs n i h = rw (take-map f n xs, take_all i (take n xs) h)
 
-  pub put_all : i ≡ min (length xs) (length out) → ys ≡ over (map f xs) out
-  put_all n = rw (n ∙ ap (λ (l : ℕ). min l (length out)) (sym (length-map xs f))) at e ∙ over_all (map f xs) out
+pub ruleset lows = (map_more, all_lows)
 
 module _ {A : Type 0} (f : A → ℕ) (d : ℕ) (xs : List A) (i : ℕ) where
   pub mixed_one : (x : A) → i < length xs → x ≡ get_or xs i x → mixed_all (mixed d (f x)) (drop (i + 1) (map f xs)) ≡ mixed_all d (drop i (map f xs))
@@ -54,3 +60,18 @@ words-one s at (suc n) zero h = simp unary_clauses
 words-one s at (suc n) (suc i) h =
     let e : at + 17 + 1 + 17 * i ≡ at + 1 + 17 * suc i = omega arith in
     words-one s (at + 17) n i (le_of_suc-le-suc h) ∙ ap (λ (k : ℕ). hex_of s k 16) e
+
+-- a line's words put over a list: one more, and all
+module _ (s : List ℕ) (at : ℕ) (out : List ℕ) (i : ℕ) where
+  pub put_word : (w : ℕ) → w ≡ hex_of (drop (at + 1 + 17 * i) s) 0 16 → i < 512 → i < length out
+      → set (over (take i (words_of s at 512)) out) i w ≡ over (take (i + 1) (words_of s at 512)) out
+  put_word w v h k =
+      rw (add-one, v, hex-drop s (at + 1 + 17 * i) 16, ← (words-one s at 512 i h))
+      (over-one 0 (words_of s at 512) out i (omega (arith, words-length s at 512)) k)
+
+  pub put_words : i ≡ min (length out) 512 → over (take i (words_of s at 512)) out ≡ over (words_of s at 512) out
+  put_words n =
+      let all : i ≡ min (length (words_of s at 512)) (length out) = omega (arith, words-length s at 512) in
+      rw all (over_all (words_of s at 512) out)
+
+pub ruleset words_put = (up_to_fits, put_word, put_words, over_length)

@@ -1,5 +1,5 @@
 -- Lists of words. Definitions only.
-use Rattle.std.specs.Prelude.{◌≡◌, ℕ, ◌+◌, ◌%◌, ◌≤◌, List, [], ◌∷◌, length, take, drop, slice_index}
+use Rattle.std.specs.Prelude.{ℕ, ◌+◌, ◌%◌, List, [], ◌∷◌, take, drop, slice_index}
 
 -- the list whose length stands at a place, as far as there are elements
 abbrev pub list_at : List ℕ → ℕ → List ℕ
@@ -10,10 +10,6 @@ unfoldable pub over : {A : Type 0} → List A → List A → List A
 over [] out = out
 over (x ∷ xs) [] = []
 over (x ∷ xs) (y ∷ out) = x ∷ over xs out
-
--- a list has n elements or more, and its first n are n
-abbrev pub IsCount : {A : Type 0} → ℕ → List A → Type 0
-IsCount n xs = (n ≤ length xs) × (n ≡ length (take n xs))
 
 abbrev pub low32 : ℕ → ℕ
 low32 x = x % 4294967296

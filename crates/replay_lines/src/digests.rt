@@ -14,6 +14,7 @@ pub fn mix(digest: u64, word: u64) -> u64
 }
 
 // The elements, mixed in one after the other.
+#[tactic(auto, using(crate::proofs::Lists::mixed_one, crate::proofs::Lists::mixed_end))]
 pub fn digest<T: Into<u64> + Copy>(start: u64, list: &[T]) -> u64
     ensures { DigestsTo T.converts start list.now result }
 {

@@ -20,6 +20,7 @@ use std::io::{Read, Write};
 
 // Reads until a buffer is full or the input ends, and says how many bytes that were. Only a read itself tells how far
 // it comes, so there is no list or range to loop over.
+#[tactic(auto, using(crate::proofs::Filling::read_more))]
 pub fn read_full<R: Read>(from: &mut R, buf: &mut [u8]) -> io::Result<usize>
     ensures { IfOk result (λ n. Filled (R.remaining from.old) (R.remaining from.new) n buf.new) }
 {
@@ -56,20 +57,22 @@ pub fn answer_all<R: Read, W: Write, F: Fn(&mut W, Question) -> io::Result<()>>(
 }
 
 // The float of a bit pattern, a NaN's too.
+#[tactic(auto, using(crate::proofs::Floats::nan_above, std::proofs::lemmas::Float::not_nan_f64_bits))]
 pub fn float_of(bits: u64) -> f64
     ensures { result ≡ from_bits binary64 bits }
 {
     if bits % 0x8000_0000_0000_0000 > 0x7FF0_0000_0000_0000 {
-        return 0.0 / 0.0;
+        return f64::NAN;
     }
     f64::from_bits(bits)
 }
 
 // The bit pattern of a float, one for every NaN.
+#[tactic(auto, using(crate::proofs::Floats::ne_self))]
 pub fn bits_of(x: f64) -> u64
     ensures { result ≡ one_nan x }
 {
-    if x != x {
+    if x.is_nan() {
         return 0x7FF8_0000_0000_0000;
     }
     f64::to_bits(x)

@@ -8,6 +8,7 @@ ghost use Rattle.replay_lines.specs.Lists.{over};
 use crate::words::{Words, rest};
 
 // How many bytes stand before the byte b.
+#[tactic(auto, using(crate::proofs::Lines::up_to_first))]
 fn find(s: &[u8], b: u8) -> usize
     ensures { result ≡ length (up_to b s.now) }
 {
@@ -15,6 +16,7 @@ fn find(s: &[u8], b: u8) -> usize
 }
 
 // The bytes that stand before the byte b.
+#[tactic(auto, using(crate::proofs::Lines::up_to_takes))]
 fn before(s: &[u8], b: u8) -> &[u8]
     ensures { result.now ≡ up_to b s.now }
 {
@@ -43,6 +45,7 @@ impl<'a> Iterator for Lines<'a> {
 
     ghost remaining = { item_count (λ s. lines_of s.left.now) };
 
+    #[tactic(auto, using(crate::proofs::Lines::lines_none, crate::proofs::Lines::lines_more))]
     fn next(&mut self) -> Option<&'a [u8]> {
         if self.left.is_empty() {
             return None;
@@ -66,6 +69,7 @@ fn digit(b: u8) -> u64
 }
 
 // The number that the first 16 digits spell, where those that are not there are 0.
+#[tactic(auto, using(crate::proofs::Digits::hex_small), unfolding(crate::specs::Hex::hex_of))]
 fn word(digits: &[u8]) -> u64
     ensures { result ≡ hex_of digits.now 0 16 }
 {
@@ -77,6 +81,7 @@ fn word(digits: &[u8]) -> u64
 }
 
 // Puts a line's first 512 words over a list, digits that are not there as 0. What the list has more stays.
+#[tactic(auto, using(crate::proofs::Lists::words_put), unfolding(crate::specs::Lists::over))]
 pub fn read_words(line: &[u8], out: &mut [u64])
     ensures { out.new ≡ over (words_of line.now (length (up_to 32 line.now)) 512) out.old }
 {

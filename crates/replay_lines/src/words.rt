@@ -2,10 +2,11 @@
 ghost use Rattle.std.specs.Prelude.{◌≡◌, ℕ, ◌+◌, min, map, length, take, drop, slice_index, from_bits};
 ghost use Rattle.std.specs.Float.{binary64};
 ghost use Rattle.io.specs.Counts.{IsPrefixLen};
-ghost use Rattle.replay_lines.specs.Lists.{over, IsCount, low32, low8};
+ghost use Rattle.replay_lines.specs.Lists.{low32, low8};
 ghost use Rattle.replay_lines.specs.Words.{next_word, next_list, LeavesAfter};
 
 use crate::float_of;
+use arrayvec::ArrayVec;
 
 // What is left to read. Words that are not there are 0.
 #[derive(Clone, Copy)]
@@ -14,7 +15,7 @@ pub struct Words<'a> {
 }
 
 // A number of which a word has the low bits.
-pub trait Low: Copy {
+pub trait Low: Copy + Default {
     ghost low: { ℕ → Self };
 
     fn low(word: u64) -> Self
@@ -52,46 +53,33 @@ impl<'a> Words<'a> {
         Words { left: words }
     }
 
-    pub fn u64(&mut self) -> u64
-        ensures value { result ≡ next_word self.old }
+    // The low bits of the next word.
+    pub fn next<T: Low>(&mut self) -> T
+        ensures value { result ≡ T.low (next_word self.old) }
         ensures left { LeavesAfter 1 self.old self.new }
     {
         match self.left.split_first() {
             Some((word, left)) => {
                 self.left = left;
-                *word
+                T::low(*word)
             }
-            None => 0,
+            None => T::low(0),
         }
     }
 
-    pub fn u32(&mut self) -> u32
-        ensures value { result ≡ low32 (next_word self.old) }
-        ensures left { LeavesAfter 1 self.old self.new }
-    {
-        u32::low(self.u64())
-    }
-
-    pub fn u8(&mut self) -> u8
-        ensures value { result ≡ low8 (next_word self.old) }
-        ensures left { LeavesAfter 1 self.old self.new }
-    {
-        u8::low(self.u64())
-    }
-
-    // A number of calls or places, of which a question has at most 512.
+    // A number of calls, of which a question has at most 512.
     pub fn count(&mut self) -> u64
         ensures value { result ≡ min 512 (next_word self.old) }
         ensures left { LeavesAfter 1 self.old self.new }
     {
-        self.u64().min(512)
+        self.next::<u64>().min(512)
     }
 
     pub fn f64(&mut self) -> f64
         ensures value { result ≡ from_bits binary64 (next_word self.old) }
         ensures left { LeavesAfter 1 self.old self.new }
     {
-        float_of(self.u64())
+        float_of(self.next())
     }
 
     // The next n words, or as many as there are.
@@ -109,18 +97,22 @@ impl<'a> Words<'a> {
         ensures value { result.now ≡ next_list self.old }
         ensures left { LeavesAfter (1 + next_word self.old) self.old self.new }
     {
-        let n = self.u64();
+        let n = self.next();
         self.part(n)
     }
 
-    // Puts a list's elements, or the low bits of each, at the start of `out`, and says how many.
-    pub fn copy_list<T: Low>(&mut self, out: &mut [T]) -> usize
-        ensures value { result ≡ min (length (next_list self.old)) (length out.old) }
-        ensures prefix_len { IsCount result out.new }
-        ensures out_after { out.new ≡ over (map T.low (next_list self.old)) out.old }
+    // A list's elements, or the low bits of each, as far as there is room.
+    #[tactic(auto, using(crate::proofs::Lists::lows))]
+    pub fn list_of<T: Low, const N: usize>(&mut self) -> ArrayVec<T, N>
+        ensures value { result.items ≡ take N (map T.low (next_list self.old)) }
         ensures left { LeavesAfter (1 + next_word self.old) self.old self.new }
     {
-        copy(self.list(), out)
+        let list = part(self.list(), 0, N);
+        let mut lows = ArrayVec::new();
+        for word in list {
+            lows.push(T::low(*word));
+        }
+        lows
     }
 }
 
@@ -152,17 +144,4 @@ pub fn at_most(n: u64, list: &[u64]) -> usize
     ensures prefix_len { IsPrefixLen result list.now }
 {
     n.min(list.len() as u64) as usize
-}
-
-// Puts a list's elements, or the low bits of each, at the start of `out`, and says how many.
-pub fn copy<T: Low>(list: &[u64], out: &mut [T]) -> usize
-    ensures value { result ≡ min (length list.now) (length out.old) }
-    ensures prefix_len { IsCount result out.new }
-    ensures out_after { out.new ≡ over (map T.low list.now) out.old }
-{
-    let n = list.len().min(out.len());
-    for i in 0..n {
-        out[i] = T::low(list[i]);
-    }
-    n
 }

@@ -29,7 +29,8 @@ pub fn least_of(xs: &[u64]) -> u64
     xs.iter().copied().min().unwrap_or(u64::MAX)
 }
 
-// The values from lo to hi.
+// The values from lo to hi. The list they are sought in is a parameter beside it: a turn changes the one and not the
+// other.
 #[derive(Clone, Copy)]
 struct Span {
     lo: u64,
@@ -75,7 +76,8 @@ fn select_inside(xs: &[u64], span: Span, k: usize) -> u64
     select_nth(&mut own[..n], k)
 }
 
-// The first elements in the span at every `stride`-th place, as many as `out` has room for; says how many. By chunks:
+// The first elements in the span at every `stride`-th place, put as `collect_inside` puts them, as many as `out` has
+// room for; says how many. By chunks:
 // `step_by` passes over each element between.
 fn gather(xs: &[u64], span: Span, stride: usize, out: &mut [u64]) -> usize
     requires { 0 < stride }
@@ -94,8 +96,8 @@ fn gather(xs: &[u64], span: Span, stride: usize, out: &mut [u64]) -> usize
     n
 }
 
-// A value above or just below the elements around place q of the sorted sample; at an end of the sample it lies on the
-// inner side. No claim is made on how near it is.
+// A value above or just below the elements around place q of the sorted sample. A flag and no two functions: at an end
+// of the sample each side needs the other. No claim is made on how near the value is.
 fn beside(sample: &mut [u64], q: usize, above: bool) -> u64 {
     let n = sample.len();
     let margin = n / 48 + 3;
@@ -141,7 +143,8 @@ fn pivot(xs: &[u64], span: Span, r: usize, s: usize, part: Part) -> u64
 }
 
 // The element at k of the sorted list: bisection on the value. `under` elements are below the span and `upto` at most
-// its last value; where few are left in it, it is selected among these.
+// its last value; where few are left in it, it is selected among these. The loop counts nothing: a turn narrows the
+// span.
 fn select(xs: &[u64], k: usize) -> u64
     requires { k < length xs.now }
     ensures { result ≡ slice_index (sorted xs.now) k }

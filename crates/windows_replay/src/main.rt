@@ -5,9 +5,11 @@
 // word, and is answered by digests. `rate_sat_kvb` says how its hurdles are worked out.
 #![tactic(auto)]
 
+ghost use Rattle.std.specs.Prelude.{◌<◌};
+
 use rbitcoin_mempool::answer::{Rate, Refusal};
 use rbitcoin_mempool::fee_analog;
-use rbitcoin_mempool::fee_analog::{AnalogHistory, WindowLists, WindowMemory};
+use rbitcoin_mempool::fee_analog::{AnalogHistory, End, WindowLists, WindowMemory};
 use replay_lines::digests::{Hurdles, digest, mix};
 use replay_lines::put;
 use replay_lines::question::Question;
@@ -15,104 +17,39 @@ use replay_lines::words::{Words, at_most, part};
 use std::io::Write;
 use std::{array, io};
 
-fn put_rate<W: Write>(to: &mut W, answer: Result<Rate, Refusal>) -> io::Result<()> {
-    match answer {
-        Ok(Some(rate)) => put::fields(to, 0, 1, rate),
-        Ok(None) => put::fields(to, 0, 0, 0),
-        Err(refusal) => put::fields(to, refusal as u64, 0, 0),
-    }
-}
-
-// A line of one rate.
-fn put_only_rate<W: Write>(to: &mut W, answer: Result<Rate, Refusal>) -> io::Result<()> {
-    put_rate(to, answer)?;
-    put::newline(to)
-}
-
 // The quantile, and the list as it is left.
 fn quantile<W: Write>(to: &mut W, mut words: Words) -> io::Result<()> {
     let confidence = words.f64();
-    let mut outcomes = [0u64; 512];
-    let n = words.copy_list(&mut outcomes);
-    let found = fee_analog::log_quantile(&mut outcomes[..n], confidence);
-    put_rate(to, found.map(Some))?;
+    let mut outcomes = words.list_of::<u64, 512>();
+    let found = fee_analog::log_quantile(&mut outcomes, confidence);
+    put::rate(to, found.map(Some))?;
     put::space(to)?;
-    put::list(to, &outcomes[..n])?;
+    put::list(to, &outcomes)?;
     put::newline(to)
-}
-
-fn refusal_number(outcome: Result<(), Refusal>) -> u64 {
-    outcome.err().map_or(0, |refusal| refusal as u64)
-}
-
-// The memory of windows of 24 places.
-#[derive(Drop)]
-struct Memory {
-    hurdles: [u64; 24],
-    befores: [f64; 384],
-    aheads: [u64; 384],
-}
-
-impl Memory {
-    fn lists(&self) -> WindowLists<'_> {
-        WindowLists {
-            hurdles: &self.hurdles,
-            befores: &self.befores,
-            aheads: &self.aheads,
-        }
-    }
 }
 
 // A call on windows, with a hurdle, or the word that its hurdles are worked out from.
 enum Call {
-    PushBack(u64),
-    PushFront(u64),
-    PopBack,
-    PopFront,
+    Push(End, u64),
+    Pop(End),
     Rebuild(u64),
 }
 
 fn next_call(words: &mut Words) -> Call {
-    let kind = words.u64();
-    let word = words.u64();
+    let kind = words.next::<u64>();
+    let word = words.next();
     match kind {
-        0 => Call::PushBack(word),
-        1 => Call::PushFront(word),
-        2 => Call::PopBack,
-        3 => Call::PopFront,
+        0 => Call::Push(End::Newest, word),
+        1 => Call::Push(End::Oldest, word),
+        2 => Call::Pop(End::Newest),
+        3 => Call::Pop(End::Oldest),
         _ => Call::Rebuild(word),
     }
 }
 
-// From up to 31 hurdles, worked out from a word.
-fn rebuilt(s: &mut AnalogHistory, word: u64, memory: &mut WindowMemory) -> Result<(), Refusal> {
-    let from: [u64; 32] = array::from_fn(|i| word ^ i as u64);
-    let n = (word % 32) as usize;
-    s.rebuild(&from[..n], memory)
-}
-
-fn called(s: &mut AnalogHistory, call: Call, m: &mut Memory) -> Result<(), Refusal> {
-    let mut memory = WindowMemory {
-        hurdles: &mut m.hurdles,
-        befores: &mut m.befores,
-        aheads: &mut m.aheads,
-    };
-    match call {
-        Call::PushBack(hurdle) => s.push_back(hurdle, &mut memory),
-        Call::PushFront(hurdle) => s.push_front(hurdle, &mut memory),
-        Call::PopBack => s.pop_back(),
-        Call::PopFront => s.pop_front(),
-        Call::Rebuild(word) => rebuilt(s, word, &mut memory),
-    }
-}
-
-// The held hurdles.
-fn hurdles_digest(s: AnalogHistory, hurdles: &[u64]) -> u64 {
-    digest(0, part(hurdles, s.start, s.count))
-}
-
-// The pairs of one target, in its region of 24 places. The logarithm of a number of at least 1 has no sign.
-fn pairs_digest(start: u64, s: AnalogHistory, n: u32, befores: &[f64], aheads: &[u64]) -> u64 {
+// The pairs of one target, in its regions of both lists, as `chunks` parts them. The logarithm of a number of at least
+// 1 has no sign.
+fn pairs_digest(start: u64, s: &AnalogHistory, n: u32, befores: &[f64], aheads: &[u64]) -> u64 {
     let pairs = s.pairs(n).unwrap_or(0);
     let lookback = fee_analog::analog_lookback(n);
     let mut digest = mix(start, pairs as u64);
@@ -123,42 +60,103 @@ fn pairs_digest(start: u64, s: AnalogHistory, n: u32, befores: &[f64], aheads: &
     digest
 }
 
-// The pairs of every target.
-fn all_pairs(s: AnalogHistory, m: &Memory) -> u64 {
-    let regions = m.befores.chunks(24).zip(m.aheads.chunks(24));
-    let mut digest: u64 = 0;
-    for (n, (befores, aheads)) in s.targets.iter().take(s.tracked).zip(regions) {
-        digest = pairs_digest(digest, s, *n, befores, aheads);
-    }
-    digest
+// Windows and the memory that they are held in.
+#[derive(Drop)]
+struct Windows<const PLACES: usize, const PAIRS: usize> {
+    state: AnalogHistory,
+    hurdles: [u64; PLACES],
+    befores: [f64; PAIRS],
+    aheads: [u64; PAIRS],
 }
 
-// Windows over some memory, and the number of the refusal or 0.
-fn opened(targets: &[u32], capacity: usize, lists: WindowLists) -> (AnalogHistory, u64) {
-    match AnalogHistory::new(targets, capacity, lists) {
-        Ok(s) => (s, 0),
-        Err(refusal) => (AnalogHistory::unopened(), refusal as u64),
+impl<const PLACES: usize, const PAIRS: usize> Windows<PLACES, PAIRS> {
+    fn unopened() -> Self {
+        Windows {
+            state: AnalogHistory::unopened(),
+            hurdles: [0; PLACES],
+            befores: [0.0; PAIRS],
+            aheads: [0; PAIRS],
+        }
+    }
+
+    // As in `history_replay`, whose sizes and other lists differ; `replay_lines`, which both use, knows no windows.
+    fn lists(&self) -> WindowLists<'_> {
+        WindowLists {
+            hurdles: &self.hurdles,
+            befores: &self.befores,
+            aheads: &self.aheads,
+        }
+    }
+
+    // Refused, they stay unopened.
+    fn open(&mut self, targets: &[u32]) -> Result<(), Refusal> {
+        self.state = AnalogHistory::new(targets, PLACES, self.lists())?;
+        Ok(())
+    }
+
+    fn push(&mut self, end: End, hurdle: u64) -> Result<(), Refusal> {
+        let mut memory = WindowMemory {
+            hurdles: &mut self.hurdles,
+            befores: &mut self.befores,
+            aheads: &mut self.aheads,
+        };
+        self.state.push(end, hurdle, &mut memory)
+    }
+
+    fn rebuild(&mut self, from: &[u64]) -> Result<(), Refusal> {
+        let mut memory = WindowMemory {
+            hurdles: &mut self.hurdles,
+            befores: &mut self.befores,
+            aheads: &mut self.aheads,
+        };
+        self.state.rebuild(from, &mut memory)
+    }
+
+    // It rebuilds from up to 31 hurdles.
+    fn call(&mut self, call: Call) -> Result<(), Refusal> {
+        match call {
+            Call::Push(end, hurdle) => self.push(end, hurdle),
+            Call::Pop(end) => self.state.pop(end),
+            Call::Rebuild(word) => {
+                let from: [u64; 32] = array::from_fn(|i| word ^ i as u64);
+                let n = (word % 32) as usize;
+                self.rebuild(&from[..n])
+            }
+        }
+    }
+
+    // The held hurdles.
+    fn hurdles_digest(&self) -> u64 {
+        digest(0, part(&self.hurdles, self.state.start, self.state.count))
+    }
+
+    // The pairs of every target.
+    fn all_pairs(&self) -> u64
+        requires { 0 < PLACES }
+    {
+        let regions = self.befores.chunks(PLACES).zip(self.aheads.chunks(PLACES));
+        let targets = self.state.targets.iter().take(self.state.tracked);
+        let mut digest: u64 = 0;
+        for (n, (befores, aheads)) in targets.zip(regions) {
+            digest = pairs_digest(digest, &self.state, *n, befores, aheads);
+        }
+        digest
     }
 }
 
 // Targets, the number of calls, and the calls.
-fn windows<W: Write>(to: &mut W, mut words: Words) -> io::Result<()> {
-    let mut targets = [0u32; 17];
-    let n = words.copy_list(&mut targets);
-    let mut m = Memory {
-        hurdles: [0; 24],
-        befores: [0.0; 384],
-        aheads: [0; 384],
-    };
-    let (mut s, mut refusals) = opened(&targets[..n], 24, m.lists());
+fn put_windows<W: Write>(to: &mut W, mut words: Words) -> io::Result<()> {
+    let targets = words.list_of::<u32, 17>();
+    let mut windows = Windows::<24, 384>::unopened();
+    let mut refusals = put::refusal_number(windows.open(&targets));
     for _ in 0..words.count() {
-        let outcome = called(&mut s, next_call(&mut words), &mut m);
-        refusals = mix(refusals, refusal_number(outcome));
+        let outcome = windows.call(next_call(&mut words));
+        refusals = mix(refusals, put::refusal_number(outcome));
     }
     put::word(to, refusals)?;
-    put::next(to, s.count as u64)?;
-    put::next(to, hurdles_digest(s, &m.hurdles))?;
-    put::next(to, all_pairs(s, &m))?;
+    put::next(to, windows.state.count as u64)?;
+    put::next(to, windows.hurdles_digest())?;
+    put::next(to, windows.all_pairs())?;
     put::newline(to)
 }
 
@@ -166,36 +164,32 @@ fn windows<W: Write>(to: &mut W, mut words: Words) -> io::Result<()> {
 fn rate(mut words: Words) -> Result<Rate, Refusal> {
     let shape = Hurdles::new(words.part(6));
     let n = shape.count;
-    let target = words.u32();
+    let target = words.next();
     let confidence = words.f64();
     let mut from = [0u64; 2304];
     for (place, hurdle) in from.iter_mut().zip(shape) {
         *place = hurdle;
     }
-    let mut hurdles = [0u64; 2304];
-    let mut befores = [0.0; 2304];
-    let mut aheads = [0u64; 2304];
-    let mut memory = WindowMemory {
-        hurdles: &mut hurdles,
-        befores: &mut befores,
-        aheads: &mut aheads,
-    };
-    let (mut s, _) = opened(&[target], 2304, memory.lists());
-    let _ = s.rebuild(&from[..n], &mut memory);
+    let mut windows = Windows::<2304, 2304>::unopened();
+    let _ = windows.open(&[target]);
+    let _ = windows.rebuild(&from[..n]);
     let mut scratch = [0u64; 2304];
-    let z = at_most(words.u64(), &scratch);
-    s.rate_sat_kvb(target, confidence, memory.lists(), &mut scratch[..z])
+    let z = at_most(words.next(), &scratch);
+    let lists = windows.lists();
+    windows
+        .state
+        .rate_sat_kvb(target, confidence, lists, &mut scratch[..z])
 }
 
 fn answer<W: Write>(to: &mut W, question: Question) -> io::Result<()> {
     let mut words = question.words;
     match question.name {
-        b"analog_lookback" => put::only(to, fee_analog::analog_lookback(words.u32()) as u64),
-        b"ln_rate" => put::only(to, num::float::abs_bits(fee_analog::ln_rate(words.u64()))),
-        b"lower_median" => put_only_rate(to, fee_analog::lower_median(words.list()).map(Some)),
+        b"analog_lookback" => put::only(to, fee_analog::analog_lookback(words.next()) as u64),
+        b"ln_rate" => put::only(to, num::float::abs_bits(fee_analog::ln_rate(words.next()))),
+        b"lower_median" => put::only_rate(to, fee_analog::lower_median(words.list()).map(Some)),
         b"log_quantile" => quantile(to, words),
-        b"windows" => windows(to, words),
-        b"rate_sat_kvb" => put_only_rate(to, rate(words)),
+        b"windows" => put_windows(to, words),
+        b"rate_sat_kvb" => put::only_rate(to, rate(words)),
         _ => put::unknown(to),
     }
 }

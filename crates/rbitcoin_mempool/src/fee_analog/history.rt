@@ -7,9 +7,9 @@ ghost use Rattle.slices.specs.Lists.{tabulate};
 ghost use Rattle.rbitcoin_mempool.specs.Outcome.{verdict, verdict_of};
 ghost use Rattle.rbitcoin_mempool.specs.Windows.{open_refusal, opened, unopened, state_refusal, pair_count};
 ghost use Rattle.rbitcoin_mempool.specs.Windows.{push_refusal_of, push_of, push_back_of, push_front_of, Room, store_of};
-ghost use Rattle.rbitcoin_mempool.specs.Windows.{pop_back_of, pop_front_of, rebuild_refusal_of, rebuilt_of};
+ghost use Rattle.rbitcoin_mempool.specs.Windows.{pop_of, pop_back_of, pop_front_of, rebuild_refusal_of, rebuilt_of};
 ghost use Rattle.rbitcoin_mempool.specs.Ends.{newest};
-ghost use Rattle.rbitcoin_mempool.specs.Memory.{windows_of, windows_seen, sizes_of, SameLent, ValidFor};
+ghost use Rattle.rbitcoin_mempool.specs.Memory.{windows_of, windows_seen, SameLent, ValidFor};
 ghost use Rattle.rbitcoin_mempool.specs.Answer.{answer};
 ghost use Rattle.rbitcoin_mempool.specs.Counted.{counted, counted_of};
 ghost use Rattle.rbitcoin_mempool.specs.Scan.{rate_sat_kvb, ScratchAfter};
@@ -64,10 +64,13 @@ impl AnalogHistory {
         capacity: usize,
         lists: WindowLists,
     ) -> Result<AnalogHistory, Refusal>
-        ensures refusal { let z = sizes_of lists.entry in
-            verdict result ≡ verdict_of (open_refusal targets.now capacity z.hurdles z.befores z.aheads) }
-        ensures state { let z = sizes_of lists.entry in
-            IfOk result (λ s. s ≡ opened targets.now capacity z.hurdles z.befores z.aheads) }
+        ensures refusal { let m = lists.entry in
+            verdict result
+            ≡ verdict_of
+            (open_refusal targets.now capacity (length m.hurdles.now) (length m.befores.now) (length m.aheads.now)) }
+        ensures state { let m = lists.entry in
+            IfOk result (λ s. s
+            ≡ opened targets.now capacity (length m.hurdles.now) (length m.befores.now) (length m.aheads.now)) }
     {
         let state = AnalogHistory {
             targets: padded(targets),
@@ -76,18 +79,18 @@ impl AnalogHistory {
             start: 0,
             count: 0,
         };
-        state.check_lent(lists.sizes())?;
+        state.check_lent(lists)?;
         Ok(state)
     }
 
-    // A hurdle put in after the newest, or before the oldest.
-    fn push(&mut self, end: End, hurdle: u64, memory: &mut WindowMemory) -> Result<(), Refusal>
+    // A hurdle put in after the newest, or before the oldest. Refused, the state and the memory are left as they are.
+    pub fn push(&mut self, end: End, hurdle: u64, memory: &mut WindowMemory) -> Result<(), Refusal>
         ensures refusal { verdict result ≡ verdict_of (push_refusal_of (windows_of self.old memory.old)) }
         ensures after { let w = windows_of self.old memory.old in
             windows_of self.new memory.new ≡ push_of (newest end) hurdle w }
         ensures lent { SameLent memory.old memory.new }
     {
-        self.check_push(memory.sizes())?;
+        self.check_push(memory.lists())?;
         self.make_room(end, memory);
         self.store(end, hurdle, memory);
         self.put_pairs(end, memory);
@@ -113,7 +116,7 @@ impl AnalogHistory {
         self.count += 1;
     }
 
-    // Append the newest block's hurdle. Refused, the state and the memory are left as they are.
+    // Append the newest block's hurdle. This and the three below are the Rust's names.
     pub fn push_back(&mut self, hurdle: u64, memory: &mut WindowMemory) -> Result<(), Refusal>
         ensures refusal { verdict result ≡ verdict_of (push_refusal_of (windows_of self.old memory.old)) }
         ensures after { windows_of self.new memory.new ≡ push_back_of hurdle (windows_of self.old memory.old) }
@@ -131,14 +134,25 @@ impl AnalogHistory {
         self.push(End::Oldest, hurdle, memory)
     }
 
+    // The newest hurdle goes, and its windows with it, or the oldest, and the lookbacks that start with it.
+    pub fn pop(&mut self, end: End) -> Result<(), Refusal>
+        ensures refusal { verdict result ≡ verdict_of (state_refusal self.old) }
+        ensures state { self.new ≡ pop_of (newest end) self.old }
+    {
+        self.check()?;
+        if self.count > 0 {
+            self.start += end.popped_in_front();
+            self.count -= 1;
+        }
+        Ok(())
+    }
+
     // Drop the newest block's hurdle: its windows end with it.
     pub fn pop_back(&mut self) -> Result<(), Refusal>
         ensures refusal { verdict result ≡ verdict_of (state_refusal self.old) }
         ensures state { self.new ≡ pop_back_of self.old }
     {
-        self.check()?;
-        self.count = self.count.saturating_sub(1);
-        Ok(())
+        self.pop(End::Newest)
     }
 
     // Drop the oldest block's hurdle: its lookbacks start with it.
@@ -146,12 +160,7 @@ impl AnalogHistory {
         ensures refusal { verdict result ≡ verdict_of (state_refusal self.old) }
         ensures state { self.new ≡ pop_front_of self.old }
     {
-        self.check()?;
-        if self.count > 0 {
-            self.start += 1;
-            self.count -= 1;
-        }
-        Ok(())
+        self.pop(End::Oldest)
     }
 
     // Replace the sequence (oldest first).
@@ -160,7 +169,7 @@ impl AnalogHistory {
         ensures after { windows_of self.new memory.new ≡ rebuilt_of from.now (windows_of self.old memory.old) }
         ensures lent { SameLent memory.old memory.new }
     {
-        self.check_rebuild(from.len(), memory.sizes())?;
+        self.check_rebuild(from.len(), memory.lists())?;
         self.start = 0;
         self.count = 0;
         for hurdle in from {
@@ -193,7 +202,7 @@ impl AnalogHistory {
             answer result ≡ rate_sat_kvb w (length scratch.old) n_blocks confidence }
         ensures scratch_after { ScratchAfter (answer result) scratch.old scratch.new }
     {
-        self.check_scan(lists.sizes(), scratch.len())?;
+        self.check_scan(lists, scratch.len())?;
         let Some(d) = self.find_target(n_blocks) else {
             return Ok(None);
         };

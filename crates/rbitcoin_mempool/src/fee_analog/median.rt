@@ -36,7 +36,8 @@ fn middle_of_three(a: u64, b: u64, c: u64) -> u64
     a.min(b).max(a.max(b).min(c))
 }
 
-// The element at (length - 1) / 2 of the sorted list. Three are compared: the lookback of each target up to 15.
+// The element at (length - 1) / 2 of the sorted list. Three are compared, with no list to select in: they
+// are the lookback of each target up to 15.
 fn median_of(values: &[u64]) -> u64
     ensures { result ≡ median_of values.now }
 {

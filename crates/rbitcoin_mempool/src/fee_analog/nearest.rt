@@ -63,7 +63,7 @@ fn count_below(xs: &[u64], v: u64) -> usize
 }
 
 // The outcomes of as many of the nearest as `out` has places, oldest first: all that are nearer than the cut, and of
-// those at the cut the oldest.
+// those at the cut the oldest. No other function takes both lists: the distances are in the scratch list.
 fn collect_nearest(distances: &[u64], outcomes: &[u64], cut: u64, out: &mut [u64])
     requires as_many { length distances.now ≡ length outcomes.now }
     requires cut { Cut (length out.old) distances.now cut }

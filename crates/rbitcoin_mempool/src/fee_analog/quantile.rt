@@ -1,5 +1,6 @@
 // Log-rate interpolation between the two order statistics around a confidence.
-ghost use Rattle.std.specs.Prelude.{◌≡◌};
+ghost use Rattle.std.specs.Prelude.{◌≡◌, ◌-◌};
+ghost use Rattle.num.specs.Float.{to_u64};
 ghost use Rattle.rbitcoin_mempool.specs.Answer.{found};
 ghost use Rattle.rbitcoin_mempool.specs.Quantile.{historical_confidence_far, in_unit};
 ghost use Rattle.rbitcoin_mempool.specs.Quantile.{rank_of, lower_place, upper_place, blend_of};
@@ -23,16 +24,22 @@ fn rank_of(confidence: f64, n: usize) -> f64
     num::float::clamp(confidence * m, 1.0, m)
 }
 
-fn lower_place(rank: f64) -> usize
-    ensures { result ≡ lower_place rank }
+// The place of a whole rank, which counts from 1.
+fn place_of(rank: f64) -> usize
+    ensures { result ≡ to_u64 rank - 1 }
 {
-    num::float::to_u64(num::float::floor(rank)).saturating_sub(1) as usize
+    num::float::to_u64(rank).saturating_sub(1) as usize
 }
 
-fn upper_place(rank: f64) -> usize
-    ensures { result ≡ upper_place rank }
+// The places of the two neighbours of a rank.
+#[tactic(auto, unfolding(crate::specs::Quantile::lower_place, crate::specs::Quantile::upper_place))]
+fn places_around(rank: f64) -> (usize, usize)
+    ensures { (result.0 ≡ lower_place rank) × (result.1 ≡ upper_place rank) }
 {
-    num::float::to_u64(num::float::ceil(rank)).saturating_sub(1) as usize
+    (
+        place_of(num::float::floor(rank)),
+        place_of(num::float::ceil(rank)),
+    )
 }
 
 fn blend(a: u64, b: u64, frac: f64) -> u64
@@ -58,8 +65,7 @@ pub(crate) fn quantile_of(xs: &[u64], confidence: f64) -> u64
     ensures { result ≡ quantile_of xs.now confidence }
 {
     let rank = rank_of(confidence, xs.len());
-    let lower = lower_place(rank);
-    let upper = upper_place(rank);
+    let (lower, upper) = places_around(rank);
     let a = slices::order::nth_smallest(xs, lower);
     if lower <= upper && upper < slices::order::count_at_most(xs, a) {
         return between_neighbors(a, a, rank);
@@ -89,7 +95,8 @@ pub fn log_quantile(outcomes: &mut [u64], confidence: f64) -> Result<u64, Refusa
     }
     slices::sort::sort(outcomes);
     let rank = rank_of(confidence, outcomes.len());
-    let a = outcomes.get(lower_place(rank)).copied().unwrap_or(0);
-    let b = outcomes.get(upper_place(rank)).copied().unwrap_or(0);
+    let (lower, upper) = places_around(rank);
+    let a = outcomes.get(lower).copied().unwrap_or(0);
+    let b = outcomes.get(upper).copied().unwrap_or(0);
     Ok(between_neighbors(a, b, rank))
 }

@@ -1,12 +1,12 @@
 // What calls on pair windows are refused with.
-ghost use Rattle.std.specs.Prelude.{◌≡◌};
+ghost use Rattle.std.specs.Prelude.{◌≡◌, length};
 ghost use Rattle.rbitcoin_mempool.specs.Outcome.{refusal_of};
 ghost use Rattle.rbitcoin_mempool.specs.Windows.{state_refusal, size_refusal, lent_refusal};
 ghost use Rattle.rbitcoin_mempool.specs.Windows.{push_refusal, rebuild_refusal};
 ghost use Rattle.rbitcoin_mempool.specs.Scan.{scan_refusal};
 
 use super::history::AnalogHistory;
-use super::memory::WindowSizes;
+use super::memory::WindowLists;
 use crate::answer::Refusal;
 
 impl AnalogHistory {
@@ -27,14 +27,19 @@ impl AnalogHistory {
         Ok(())
     }
 
-    // Memory of these sizes.
+    // Memory as long as the capacity asks.
     #[tactic(auto, using(crate::proofs::Refusals::size_tests), unfolding(crate::specs::Windows::size_refusal))]
-    pub fn check_sizes(&self, lent: WindowSizes) -> Result<(), Refusal>
+    pub fn check_sizes(&self, lent: WindowLists) -> Result<(), Refusal>
         requires { state_refusal self.now ≡ 0 }
-        ensures { refusal_of result ≡ size_refusal self.now lent.hurdles lent.befores lent.aheads }
+        ensures { let m = lent.entry in
+            refusal_of result
+            ≡ size_refusal self.now (length m.hurdles.now) (length m.befores.now) (length m.aheads.now) }
     {
         let places = self.tracked * self.capacity;
-        if lent.hurdles < self.capacity || lent.befores < places || lent.aheads < places {
+        if lent.hurdles.len() < self.capacity
+            || lent.befores.len() < places
+            || lent.aheads.len() < places
+        {
             return Err(Refusal::Short);
         }
         Ok(())
@@ -42,16 +47,20 @@ impl AnalogHistory {
 
     // A call that lends memory.
     #[tactic(auto, using(crate::proofs::Refusals::refusal_steps), unfolding(crate::specs::Windows::lent_refusal))]
-    pub(crate) fn check_lent(&self, lent: WindowSizes) -> Result<(), Refusal>
-        ensures { refusal_of result ≡ lent_refusal self.now lent.hurdles lent.befores lent.aheads }
+    pub(crate) fn check_lent(&self, lent: WindowLists) -> Result<(), Refusal>
+        ensures { let m = lent.entry in
+            refusal_of result
+            ≡ lent_refusal self.now (length m.hurdles.now) (length m.befores.now) (length m.aheads.now) }
     {
         self.check()?;
         self.check_sizes(lent)
     }
 
     #[tactic(auto, using(crate::proofs::Refusals::refusal_steps), unfolding(crate::specs::Windows::push_refusal))]
-    pub(crate) fn check_push(&self, lent: WindowSizes) -> Result<(), Refusal>
-        ensures { refusal_of result ≡ push_refusal self.now lent.hurdles lent.befores lent.aheads }
+    pub(crate) fn check_push(&self, lent: WindowLists) -> Result<(), Refusal>
+        ensures { let m = lent.entry in
+            refusal_of result
+            ≡ push_refusal self.now (length m.hurdles.now) (length m.befores.now) (length m.aheads.now) }
     {
         self.check_lent(lent)?;
         if self.count == self.capacity {
@@ -61,8 +70,10 @@ impl AnalogHistory {
     }
 
     #[tactic(auto, using(crate::proofs::Refusals::refusal_steps), unfolding(crate::specs::Windows::rebuild_refusal))]
-    pub(crate) fn check_rebuild(&self, n: usize, lent: WindowSizes) -> Result<(), Refusal>
-        ensures { refusal_of result ≡ rebuild_refusal n self.now lent.hurdles lent.befores lent.aheads }
+    pub(crate) fn check_rebuild(&self, n: usize, lent: WindowLists) -> Result<(), Refusal>
+        ensures { let m = lent.entry in
+            refusal_of result
+            ≡ rebuild_refusal n self.now (length m.hurdles.now) (length m.befores.now) (length m.aheads.now) }
     {
         self.check_lent(lent)?;
         if self.capacity < n {
@@ -73,8 +84,10 @@ impl AnalogHistory {
 
     // A scan that lends scratch of this size too.
     #[tactic(auto, using(crate::proofs::Refusals::refusal_steps), unfolding(crate::specs::Scan::scan_refusal))]
-    pub(crate) fn check_scan(&self, lent: WindowSizes, scratch: usize) -> Result<(), Refusal>
-        ensures { refusal_of result ≡ scan_refusal self.now lent.hurdles lent.befores lent.aheads scratch }
+    pub(crate) fn check_scan(&self, lent: WindowLists, scratch: usize) -> Result<(), Refusal>
+        ensures { let m = lent.entry in
+            refusal_of result
+            ≡ scan_refusal self.now (length m.hurdles.now) (length m.befores.now) (length m.aheads.now) scratch }
     {
         self.check_lent(lent)?;
         if scratch < self.capacity {

@@ -9,7 +9,8 @@ use super::memory::WindowMemory;
 use super::window::End;
 
 impl AnalogHistory {
-    // The pairs of all held windows moved, in each target's region, as the held hurdles move to start at place to.
+    // The pairs of all held windows moved, in each target's region, as the held hurdles move to start at place to. Of
+    // the memory these two lists alone: of the whole, the contract would have to say that the hurdles stay.
     fn move_regions(&self, to: usize, befores: &mut [f64], aheads: &mut [u64])
         requires count_bound { to + self.now.count ≤ self.now.capacity }
         requires valid { Valid self.now self.now.capacity (length befores.old) (length aheads.old) }
@@ -38,7 +39,8 @@ impl AnalogHistory {
         self.start = to;
     }
 
-    // Room for one more hurdle, after the newest or before the oldest.
+    // Room for one more hurdle, after the newest or before the oldest. A call in each arm: with one behind the match,
+    // the proof no longer knows which end it is for.
     pub(crate) fn make_room(&mut self, end: End, memory: &mut WindowMemory)
         requires { ValidFor self.old memory.old }
         ensures room { windows_of self.new memory.new ≡ room_of (newest end) (windows_of self.old memory.old) }

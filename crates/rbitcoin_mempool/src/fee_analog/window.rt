@@ -7,9 +7,21 @@ ghost use Rattle.rbitcoin_mempool.specs.Pairs.{ahead_of};
 use super::median::analog_lookback;
 
 #[derive(Clone, Copy, Debug, PartialEq, Eq)]
-pub(crate) enum End {
+pub enum End {
     Oldest,
     Newest,
+}
+
+impl End {
+    // How many hurdles go in front when the one at this end goes.
+    pub(crate) fn popped_in_front(self) -> usize
+        ensures { (result ≡ (if newest self then 0 else 1)) × (result ≤ 1) }
+    {
+        match self {
+            End::Newest => 0,
+            End::Oldest => 1,
+        }
+    }
 }
 
 // How many hurdles a window has ahead.

@@ -26,18 +26,18 @@ pub const LAMBDA_AT_NEAR: f64 = 2.0;
 // The inflow is projected at most this far.
 pub const INFLOW_HORIZON_CAP_SECS: u64 = 600;
 
-// The capacity of N blocks, N at least 1. Products saturate by `num`: std's `saturating_mul` divides.
+// The capacity of N blocks, N at least 1. The Rust has a function for each of the two products.
 pub fn capacity_wu(n_blocks: u32) -> u64
     ensures { result ≡ capacity_wu n_blocks }
 {
-    num::word::saturating_mul(n_blocks.max(1) as u64, BLOCK_WEIGHT_WU)
+    u64::from(n_blocks.max(1)).saturating_mul(BLOCK_WEIGHT_WU)
 }
 
 // The seconds that N blocks are planned to take.
 pub fn horizon_secs(n_blocks: u32) -> u64
     ensures { result ≡ horizon_secs n_blocks }
 {
-    num::word::saturating_mul(n_blocks.max(1) as u64, SECONDS_PER_BLOCK)
+    u64::from(n_blocks.max(1)).saturating_mul(SECONDS_PER_BLOCK)
 }
 
 // The same, at most ten minutes: how far the inflow is projected.
@@ -76,7 +76,7 @@ pub fn inflow_suffix_wu(inflow_wu_per_s_by_bucket: &[u64], horizon_secs: u64) ->
 {
     let mut suffix = [0u64; 403];
     for i in (0..inflow_wu_per_s_by_bucket.len().min(bucket_count())).rev() {
-        let wu = num::word::saturating_mul(inflow_wu_per_s_by_bucket[i], horizon_secs);
+        let wu = inflow_wu_per_s_by_bucket[i].saturating_mul(horizon_secs);
         suffix[i] = suffix[i + 1].saturating_add(wu);
     }
     suffix
@@ -105,7 +105,8 @@ fn fits_with(suffix: &[u64; 403], n_blocks: u32, candidate: u64, stock: u64) -> 
     stock.saturating_add(wu) <= effective_capacity_wu(n_blocks)
 }
 
-// The least candidate that fits. Every one is tried: they come in any order, and fit need not be monotone.
+// The least candidate that fits. Every one is tried: they come in any order, and fit need not be monotone. Candidates
+// and stock are lists of their own, as C lends them.
 // A chain of `zip`, `filter` and `min` took nearly twice as long.
 fn least_fitting(candidates: &[u64], stock: &[u64], suffix: &[u64; 403], n_blocks: u32) -> Rate
     requires { length candidates.now ≡ length stock.now }

@@ -47,7 +47,7 @@ fn five_from(eighth: usize) -> (usize, [u64; 5])
 fn passed(edge: u64, y: u64) -> usize
     ensures { (result ≡ (if nat_lt edge y then 1 else 0)) × (result ≤ 1) }
 {
-    if edge < y { 1 } else { 0 }
+    usize::from(edge < y)
 }
 
 // The eighth that y lies in, by its leading bit and the three after it.

@@ -1,4 +1,5 @@
-// The rate of one depth: live flow blended with history, and both with the warm-up share.
+// The rate of one depth: live flow blended with history, and both with the warm-up share. The rates are parameters of
+// their own, as the Rust and C have them.
 ghost use Rattle.std.specs.Prelude.{◌≡◌, ◌^◌, ◌<◌, if◌then◌else◌};
 ghost use Rattle.num.specs.Float.{of_u64};
 ghost use Rattle.rbitcoin_mempool.specs.Rates.{given};
@@ -54,7 +55,8 @@ fn blended(v: f64, a: u64, b: u64) -> u64
     num::float::round_to_u64(v * num::float::from_u64(a) + (1.0 - v) * num::float::from_u64(b))
 }
 
-// (1-v)·b + v·a, rounded.
+// (1-v)·b + v·a, rounded, in the Rust's order, as its definition has it: as one function with `blended` it would need a
+// law that a sum commutes.
 fn warmed(v: f64, b: u64, a: u64) -> u64
     ensures { result ≡ warmed v b a }
 {
@@ -78,6 +80,7 @@ pub fn blend_sat_kvb(flow: Rate, hist: Rate, n_blocks: u32) -> Rate
     blend_rate(flow, hist, n_blocks)
 }
 
+// The value alone, from which the distance is proved.
 #[tactic(auto, unfolding(crate::specs::Depths::blend_sat_kvb))]
 fn blend_rate(flow: Rate, hist: Rate, n_blocks: u32) -> Rate
     ensures { given result ≡ blend_sat_kvb (given flow) (given hist) n_blocks }
@@ -88,7 +91,7 @@ fn blend_rate(flow: Rate, hist: Rate, n_blocks: u32) -> Rate
     }
 }
 
-// The warm-up share clamped to 0..1, and 0 where it is not finite.
+// The warm-up share clamped to 0..1, and 0 where it is not finite: by `num`, whose contract the laws read.
 #[tactic(auto, unfolding(crate::specs::Depths::clamped_share))]
 fn clamped_share(alpha: f64) -> f64
     ensures { result ≡ clamped_share alpha }
@@ -141,7 +144,7 @@ fn warm_rate(n_blocks: u32, flow: Rate, hist: Rate) -> Rate
     blend_sat_kvb(flow, hist, n_blocks)
 }
 
-// One target's rate before the monotone pass.
+// One target's rate before the monotone pass. `flow_warm` is the Rust's argument, and C's.
 #[tactic(auto, unfolding(crate::specs::Depths::depth_rate_sat_kvb))]
 pub fn depth_rate_sat_kvb(
     n_blocks: u32,
@@ -192,8 +195,8 @@ pub fn published_depth_rate(
         → Both (Within 2) (given result)
         (exact_published n_blocks alpha (given flow) (given frontier) (given hist) (given confirm_floor)) }
 {
-    let cold = depth_rate_sat_kvb(n_blocks, false, flow, frontier, hist);
-    let warm = depth_rate_sat_kvb(n_blocks, true, flow, frontier, hist);
+    let cold = cold_rate(frontier, hist);
+    let warm = warm_rate(n_blocks, flow, hist);
     warmup_blend(
         alpha,
         cold,

@@ -89,7 +89,7 @@ pub fn first_bucket_above(rate_sat_per_kvb: u64) -> usize
     402
 }
 
-// The default candidates of the capacity search: the bucket edges.
+// The default candidates of the capacity search: the bucket edges. The Rust has three names for one table.
 pub fn default_candidate_rates() -> [u64; 401]
     ensures { result ≡ flow_bucket_edges }
 {

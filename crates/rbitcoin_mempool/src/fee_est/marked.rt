@@ -7,14 +7,15 @@ ghost use Rattle.rbitcoin_mempool.specs.Target.{last_there};
 
 use crate::answer::{Rate, Refusal};
 
-// A rate is there under the mark 1 and missing under 0. What stands under a 0 is not read.
+// A rate is there under the mark 1 and missing under 0. What stands under a 0 is not read. Marks, and no list of
+// `Option`s: C lends them so, and may lend lists of two lengths, so that contracts say which are of one.
 #[derive(Clone, Copy)]
 pub struct Marked<'a> {
     pub numbers: &'a [u64],
     pub marks: &'a [u8],
 }
 
-// The same, to write.
+// The same, to write: another type, since a view to read is copied and one to write cannot be.
 #[derive(Drop)]
 pub struct MarkedMut<'a> {
     pub numbers: &'a mut [u64],
@@ -30,7 +31,7 @@ impl Marked<'_> {
     }
 
     // Whether each mark is 0 or 1. Every mark is tested, with no early exit, so that the compiler can test many at
-    // once: `all` took six times as long of 64.
+    // once: `all` took six times as long of a list of 64.
     #[tactic(auto, unfolding(crate::specs::Rates::marks_valid, slices::specs::Every::every))]
     pub(crate) fn are_valid(&self) -> bool
         ensures { result ≡ marks_valid self.now.marks.now }
@@ -58,7 +59,7 @@ impl Marked<'_> {
         Ok(())
     }
 
-    pub(crate) fn rate_at(&self, i: usize) -> Rate
+    pub fn rate_at(&self, i: usize) -> Rate
         requires { (i < length self.now.numbers.now) × (i < length self.now.marks.now) }
         ensures { given result ≡ rate_at self.now.numbers.now self.now.marks.now i }
     {
@@ -85,7 +86,7 @@ impl Marked<'_> {
 }
 
 impl MarkedMut<'_> {
-    // The lists to read.
+    // The lists to read, by the name that Rust gives such a view.
     pub fn as_marked(&self) -> Marked<'_>
         ensures numbers { result.numbers.now ≡ self.now.numbers.now }
         ensures marks { result.marks.now ≡ self.now.marks.now }
@@ -97,7 +98,7 @@ impl MarkedMut<'_> {
     }
 
     // Writes the rate at a place: the number and 1, or 0 and 0 where it is missing.
-    pub(crate) fn put(&mut self, i: usize, rate: Rate)
+    pub fn put(&mut self, i: usize, rate: Rate)
         requires { (i < length self.old.numbers.now) × (i < length self.old.marks.now) }
         ensures numbers_after { self.new.numbers.now ≡ slice_set self.old.numbers.now i (number_of (given rate)) }
         ensures marks_after { self.new.marks.now ≡ slice_set self.old.marks.now i (mark_of (given rate)) }

@@ -25,7 +25,7 @@ pub struct DepthLists<'a> {
 }
 
 impl DepthLists<'_> {
-    // The published rate of the depth at i.
+    // The published rate of the depth at i, which the loop's range bounds.
     fn published_at(&self, i: usize) -> Rate
         requires i_in_bounds { i < length self.now.depths.now }
         requires aligned { Aligned self.now }

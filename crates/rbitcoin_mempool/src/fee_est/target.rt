@@ -1,65 +1,76 @@
 // The rate at a confirm target, from depths that are already worked out.
-ghost use Rattle.std.specs.Prelude.{◌≡◌, ℕ, ◌+◌, ◌-◌, ◌*◌, ◌^◌, ◌<◌, ◌≤◌, min, max, true, length, take, nat_le};
-ghost use Rattle.std.specs.Prelude.{slice_index, slice_index_or};
+ghost use Rattle.std.specs.Prelude.{◌≡◌, ℕ, ◌-◌, ◌+◌, ◌*◌, ◌^◌, ◌<◌, ◌≤◌, min, max, true};
+ghost use Rattle.std.specs.Prelude.{length, take, nat_le, slice_index, slice_index_or};
 ghost use Rattle.std.proofs.Math.Option.{none};
 ghost use Rattle.slices.specs.Search.{seek};
 ghost use Rattle.rbitcoin_mempool.specs.Answer.{answer};
 ghost use Rattle.rbitcoin_mempool.specs.Rates.{given};
 ghost use Rattle.rbitcoin_mempool.specs.Hold.{never_descends};
 ghost use Rattle.rbitcoin_mempool.specs.Lists.{Paired, rates_in};
-ghost use Rattle.rbitcoin_mempool.specs.Target.{nearest_quotient, lerp_sat_kvb, last_there, between, at_index};
+ghost use Rattle.rbitcoin_mempool.specs.Target.{nearest_on, lerp_sat_kvb, last_there, between, at_index};
 ghost use Rattle.rbitcoin_mempool.specs.Target.{fee_at_target, fee_at_target_sat_kvb};
 
 use super::hold::never_descends;
 use super::marked::Marked;
 use crate::answer::{Rate, Refusal};
 
-// A quote held between the two ends.
-fn held_between(left: u64, right: u64, quote: u64) -> u64
-    ensures { result ≡ max (min left right) (min (max left right) quote) }
-{
-    left.min(right).max(left.max(right).min(quote))
+// Two quotes `span` blocks apart, and how far a target lies from the left one.
+#[derive(Clone, Copy)]
+struct Line {
+    left: u64,
+    right: u64,
+    dist: u64,
+    span: u64,
+    ghost within: { dist ≤ span },
+    ghost apart: { 0 < span },
+    ghost fits: { span < 2 ^ 32 },
 }
 
-// left·(span - dist) + right·dist over span, to the nearest, halves up; the largest u64 where that is less.
-// Rates below 2^32 need no second word.
-#[tactic(auto, unfolding(crate::specs::Target::nearest_quotient))]
-fn line_short(left: u64, right: u64, dist: u64, span: u64) -> u64
-    requires { (dist ≤ span) × (0 < span) × (span < 2 ^ 32) × (left < 2 ^ 32) × (right < 2 ^ 32) }
-    ensures { result ≡ min (nearest_quotient (left * (span - dist) + right * dist) span) (2 ^ 64 - 1) }
-{
-    let numer = left * (span - dist) + right * dist;
-    let quotient = numer / span;
-    if span <= numer % span * 2 {
-        return quotient + 1;
+impl Line {
+    // left·(span - dist) + right·dist over span, to the nearest, halves up; the largest u64 where that is less. Rates
+    // below 2^32 by one word: all lines by two took twice as long.
+    fn nearest(self) -> u64
+        ensures { result ≡ nearest_on self.left self.right self.dist self.span }
+    {
+        if self.left < 4294967296 && self.right < 4294967296 {
+            self.short()
+        } else {
+            self.wide()
+        }
     }
-    quotient
-}
 
-fn line_wide(left: u64, right: u64, dist: u64, span: u64) -> u64
-    requires { (dist ≤ span) × (0 < span) × (span < 2 ^ 32) }
-    ensures { result ≡ min (nearest_quotient (left * (span - dist) + right * dist) span) (2 ^ 64 - 1) }
-{
-    let numer = num::wide::wide_sum(
-        num::wide::wide_product(left, span - dist),
-        num::wide::wide_product(right, dist),
-    );
-    let parts = num::wide::wide_divide(numer, span);
-    let quotient = parts.quotient;
-    if span <= parts.remainder * 2 {
-        return quotient.lo.saturating_add(1);
+    #[tactic(auto, unfolding(crate::specs::Target::nearest_quotient))]
+    fn short(self) -> u64
+        requires { (self.left < 2 ^ 32) × (self.right < 2 ^ 32) }
+        ensures { result ≡ nearest_on self.left self.right self.dist self.span }
+    {
+        let numer = self.left * (self.span - self.dist) + self.right * self.dist;
+        let quotient = numer / self.span;
+        if self.span <= numer % self.span * 2 {
+            return quotient + 1;
+        }
+        quotient
     }
-    quotient.lo
-}
 
-fn line_over(left: u64, right: u64, dist: u64, span: u64) -> u64
-    requires { (dist ≤ span) × (0 < span) × (span < 2 ^ 32) }
-    ensures { result ≡ min (nearest_quotient (left * (span - dist) + right * dist) span) (2 ^ 64 - 1) }
-{
-    if left < 4294967296 && right < 4294967296 {
-        line_short(left, right, dist, span)
-    } else {
-        line_wide(left, right, dist, span)
+    #[tactic(auto, unfolding(crate::specs::Target::nearest_quotient))]
+    fn wide(self) -> u64
+        ensures { result ≡ nearest_on self.left self.right self.dist self.span }
+    {
+        let left = u128::from(self.left) * u128::from(self.span - self.dist);
+        let numer = left + u128::from(self.right) * u128::from(self.dist);
+        let span = u128::from(self.span);
+        let up = span <= numer % span * 2;
+        u64::try_from(numer / span + u128::from(up)).unwrap_or(u64::MAX)
+    }
+
+    // The same, held between the two ends.
+    fn held(self) -> u64
+        ensures { let quote = nearest_on self.left self.right self.dist self.span in
+            result ≡ max (min self.left self.right) (min (max self.left self.right) quote) }
+    {
+        let low = self.left.min(self.right);
+        let high = self.left.max(self.right);
+        low.max(high.min(self.nearest()))
     }
 }
 
@@ -73,77 +84,90 @@ pub fn lerp_sat_kvb(d0: u32, left: u64, d1: u32, right: u64, target: u32) -> u64
     if span == 0 {
         return left;
     }
-    let dist = (target.saturating_sub(d0) as u64).min(span);
-    held_between(left, right, line_over(left, right, dist, span))
+    let line = Line {
+        left,
+        right,
+        dist: (target.saturating_sub(d0) as u64).min(span),
+        span,
+    };
+    line.held()
 }
 
-// The first depth at or above the target, by halving. Of `size` places from `base` on the middle one
-// is read; `less` is 0 or 1, and no branch hangs on it, since none could be foretold: `partition_point`, which
-// branches, took 1.6 times as long of 64.
-fn first_at(depths: &[u32], target: u32) -> usize
-    requires { never_descends depths.now ≡ true }
-    ensures { result ≡ seek (λ i. nat_le target (slice_index depths.now i)) 0 (length depths.now) }
-{
-    let mut base: usize = 0;
-    let mut size = depths.len();
-    while size > 0 {
-        let half = size / 2;
-        let less = (depths[base + half] < target) as usize;
-        base += less * (half + 1);
-        size = (size - less) / 2;
-    }
-    base
+// Depths that never descend, and as many rates. An index among them stands with its bound in two contracts: as a type
+// of its own it would be made for a single call.
+#[derive(Clone, Copy)]
+struct Curve<'a> {
+    depths: &'a [u32],
+    rates: Marked<'a>,
+    ghost paired: { Paired rates (length depths.now) },
+    ghost ascends: { never_descends depths.now ≡ true },
 }
 
-// Between the depth before i and the one at i.
-fn between_at(depths: &[u32], rates: Marked, target: u32, i: usize) -> Rate
-    requires i_nonzero { (0 < i) × (i < length depths.now) }
-    requires paired { Paired rates (length depths.now) }
-    ensures { let rates = rates_in rates.entry in
-        let before = slice_index depths.now (i - 1) in
-        let line : ℕ → ℕ → ℕ = λ l r. lerp_sat_kvb before l (slice_index depths.now i) r target in
-        given result ≡ between line (last_there (take i rates))
-        (slice_index_or rates (i - 1) none) (slice_index_or rates i none) }
-{
-    let before = i - 1;
-    match rates.rate_at(before) {
-        Some(left) => match rates.rate_at(i) {
-            Some(right) => Some(lerp_sat_kvb(depths[before], left, depths[i], right, target)),
-            None => Some(left),
-        },
-        None => rates.last_there(i),
+impl Curve<'_> {
+    // The first depth at or above the target.
+    fn first_at(&self, target: u32) -> usize
+        ensures { let depths = self.now.depths.now in
+            result ≡ seek (λ i. nat_le target (slice_index depths i)) 0 (length depths) }
+    {
+        slices::search::lower_bound(self.depths, 0, self.depths.len(), target)
     }
-}
 
-// At the first depth at or above the target: its own rate, or what lies between it and the one before.
-#[tactic(auto, unfolding(crate::specs::Target::at_index))]
-fn at_index(depths: &[u32], rates: Marked, target: u32, i: usize) -> Rate
-    requires i_in_bounds { i < length depths.now }
-    requires paired { Paired rates (length depths.now) }
-    ensures { given result
-        ≡ at_index (λ d0 l d1 r. lerp_sat_kvb d0 l d1 r target) depths.now (rates_in rates.entry) target i }
-{
-    if depths[i] == target {
-        return rates.rate_at(i);
+    // Between the depth before i and the one at i.
+    fn between_at(&self, target: u32, i: usize) -> Rate
+        requires { (0 < i) × (i < length self.now.depths.now) }
+        ensures { let depths = self.now.depths.now in
+            let rates = rates_in self.now.rates in
+            let before = slice_index depths (i - 1) in
+            let line : ℕ → ℕ → ℕ = λ l r. lerp_sat_kvb before l (slice_index depths i) r target in
+            given result ≡ between line (last_there (take i rates))
+            (slice_index_or rates (i - 1) none) (slice_index_or rates i none) }
+    {
+        let before = i - 1;
+        match self.rates.rate_at(before) {
+            Some(left) => match self.rates.rate_at(i) {
+                Some(right) => {
+                    let quote = lerp_sat_kvb(
+                        self.depths[before],
+                        left,
+                        self.depths[i],
+                        right,
+                        target,
+                    );
+                    Some(quote)
+                }
+                None => Some(left),
+            },
+            None => self.rates.last_there(i),
+        }
     }
-    if i == 0 {
-        return None;
-    }
-    between_at(depths, rates, target, i)
-}
 
-// The lookup proper, of depths that never descend and as many rates.
-fn look_up(depths: &[u32], rates: Marked, target: u32) -> Rate
-    requires depths_nonzero { 0 < length depths.now }
-    requires depths_ascend { never_descends depths.now ≡ true }
-    requires paired { Paired rates (length depths.now) }
-    ensures { given result ≡ fee_at_target depths.now (rates_in rates.entry) target }
-{
-    let n = depths.len();
-    if target > depths[n - 1] {
-        return rates.last_there(n);
+    // At the first depth at or above the target: its own rate, or what lies between it and the one before.
+    #[tactic(auto, unfolding(crate::specs::Target::at_index))]
+    fn at_index(&self, target: u32, i: usize) -> Rate
+        requires { i < length self.now.depths.now }
+        ensures { let line : ℕ → ℕ → ℕ → ℕ → ℕ = λ d0 l d1 r. lerp_sat_kvb d0 l d1 r target in
+            given result ≡ at_index line self.now.depths.now (rates_in self.now.rates) target i }
+    {
+        if self.depths[i] == target {
+            return self.rates.rate_at(i);
+        }
+        if i == 0 {
+            return None;
+        }
+        self.between_at(target, i)
     }
-    at_index(depths, rates, target, first_at(depths, target))
+
+    // The lookup proper.
+    fn look_up(&self, target: u32) -> Rate
+        requires { 0 < length self.now.depths.now }
+        ensures { given result ≡ fee_at_target self.now.depths.now (rates_in self.now.rates) target }
+    {
+        let n = self.depths.len();
+        if target > self.depths[n - 1] {
+            return self.rates.last_there(n);
+        }
+        self.at_index(target, self.first_at(target))
+    }
 }
 
 // The rate at a target. Refusal 1 where numbers and marks differ in length; no rate where there are
@@ -165,5 +189,5 @@ pub fn fee_at_target_sat_kvb(depths: &[u32], rates: Marked, target: u32) -> Resu
     if !never_descends(depths) {
         return Err(Refusal::Descending);
     }
-    Ok(look_up(depths, rates, target))
+    Ok(Curve { depths, rates }.look_up(target))
 }

@@ -1,27 +1,30 @@
 // Rows that are no longer held.
 ghost use Rattle.std.specs.Prelude.{◌≡◌, ◌+◌, ◌≤◌, length};
-ghost use Rattle.rbitcoin_mempool.specs.Windows.{pop_back_of};
+ghost use Rattle.rbitcoin_mempool.specs.Ends.{newest};
+ghost use Rattle.rbitcoin_mempool.specs.Windows.{pop_of};
 ghost use Rattle.rbitcoin_net.specs.History.{next};
 ghost use Rattle.rbitcoin_net.specs.Lent.{Reach};
 ghost use Rattle.rbitcoin_net.specs.Memory.{rows_seen, hashes_seen};
 ghost use Rattle.rbitcoin_net.specs.Cuts.{forget_block, cut_at, truncate_in};
 
 use super::memory::{HashLists, RowLists};
-use super::search::lower_bound;
 use super::{FeeHistory, HistoricalFeeBlock};
+use rbitcoin_mempool::fee_analog::End;
+use slices::search::lower_bound;
 
 impl FeeHistory {
-    // A block of those cut is no longer held: its bytes leave the total, and where its rate is there and the
-    // hurdles are not stale, the newest hurdle goes.
-    fn forget_back(&mut self, old: HistoricalFeeBlock)
-        ensures { self.new ≡ forget_block pop_back_of old self.old }
+    // The newest or the oldest block is no longer held: its bytes leave the total, and where its rate is there and the
+    // hurdles are not stale, the hurdle at that end goes.
+    #[tactic(auto, unfolding(crate::specs::Cuts::forget_row))]
+    pub(crate) fn forget(&mut self, end: End, old: HistoricalFeeBlock)
+        ensures { self.new ≡ forget_block (pop_of (newest end)) old self.old }
     {
         self.txstat_bytes = self.txstat_bytes.saturating_sub(old.txstat_bytes);
         if self.analog_stale {
             return;
         }
         if let Some(_) = old.p10_sat_kvb {
-            let _ = self.analog.pop_back();
+            let _ = self.analog.pop(end);
         }
     }
 
@@ -32,12 +35,13 @@ impl FeeHistory {
         ensures { self.new ≡ cut_at (rows_seen rows.entry) p self.old }
     {
         for i in p..self.start + self.count {
-            self.forget_back(rows.block_at(i));
+            self.forget(End::Newest, rows.block_at(i));
         }
         self.count = p - self.start;
     }
 
     // The rows and the hashes above `height` dropped; at the largest height, those of that height itself.
+    #[tactic(auto, using(crate::proofs::CutSound::truncated), unfolding(crate::specs::History::next))]
     pub(crate) fn truncate(&mut self, height: u32, rows: RowLists, hashes: HashLists)
         requires reach { Reach self.old (rows_seen rows) }
         requires hashes { self.old.hashes ≤ length hashes.heights.now }

@@ -1,15 +1,19 @@
-// The kept hashes: 144 heights, sorted from the first place on, and 32 bytes for each.
+// The kept hashes: 144 heights, sorted from the first place on, and 32 bytes for each. Their count is in C's state,
+// apart from the lists, so that it is passed and answered.
 ghost use Rattle.std.specs.Prelude.{◌≡◌, ◌+◌, ◌-◌, ◌*◌, ◌≤◌, ◌<◌, length};
-ghost use Rattle.rbitcoin_net.specs.Hashes.{hash_list, hash_of, Room, moved_hashes, put_hash, remove_hash, note_at, note_hash_in};
+ghost use Rattle.rbitcoin_net.specs.Hashes.{hash_list, hash_of, Room};
+ghost use Rattle.rbitcoin_net.specs.Hashes.{moved_hashes, put_hash, remove_hash, note_at, note_hash_in};
 ghost use Rattle.rbitcoin_net.specs.Memory.{hashes_of, SameHashes};
 
 use super::memory::HashMemory;
-use super::search::{is_at, lower_bound};
+use super::search::is_at;
 use super::{BlockHash, RECENT_HASHES};
 use slices::moves::{copy_front, copy_within};
+use slices::search::lower_bound;
 
 impl HashMemory<'_> {
     // n hashes at place `from`, also at place `to`.
+    #[tactic(auto, using(slices::proofs::Runs::copied))]
     fn copy_within(&mut self, to: usize, from: usize, n: usize)
         requires fits { (to + n ≤ 144) × (from + n ≤ 144) }
         requires long { (144 ≤ length self.old.heights.now) × (4608 ≤ length self.old.bytes.now) }
@@ -33,9 +37,11 @@ impl HashMemory<'_> {
     }
 
     // The hash of a height dropped, if it is kept; the number that is left.
+    #[tactic(auto, using(crate::proofs::Steps::removing))]
     pub(crate) fn remove(&mut self, count: usize, height: u32) -> usize
         requires { Room (hash_list count (hashes_of self.old)) }
-        ensures removed { hash_list result (hashes_of self.new) ≡ remove_hash height (hash_list count (hashes_of self.old)) }
+        ensures removed { hash_list result (hashes_of self.new)
+            ≡ remove_hash height (hash_list count (hashes_of self.old)) }
         ensures lent { SameHashes self.old self.new }
     {
         let kept = self.lists();
@@ -47,11 +53,13 @@ impl HashMemory<'_> {
         count - 1
     }
 
-    // A hash put at its place: over the one of that height; or where fewer than 144 are kept, between the others; or where
-    // the oldest goes and is not the new one itself.
+    // A hash put at its place: over the one of that height; or where fewer than 144 are kept, between the others; or
+    // where the oldest goes and is not the new one itself.
+    #[tactic(auto, using(crate::proofs::Steps::noting), unfolding(crate::specs::Hashes::note_at))]
     fn note_at(&mut self, count: usize, q: usize, height: u32, hash: BlockHash) -> usize
         requires { Room (hash_list count (hashes_of self.old)) × (q ≤ count) }
-        ensures noted { hash_list result (hashes_of self.new) ≡ note_at q height hash.bytes (hash_list count (hashes_of self.old)) }
+        ensures noted { hash_list result (hashes_of self.new)
+            ≡ note_at q height hash.bytes (hash_list count (hashes_of self.old)) }
         ensures lent { SameHashes self.old self.new }
     {
         let kept = self.lists();
@@ -73,6 +81,7 @@ impl HashMemory<'_> {
     }
 
     // The hash of a height kept, if there is one, and the newest 144 of all; how many are kept then.
+    #[tactic(auto, unfolding(crate::specs::Hashes::hash_place))]
     pub(crate) fn note(&mut self, count: usize, height: u32, hash: Option<BlockHash>) -> usize
         requires { Room (hash_list count (hashes_of self.old)) }
         ensures noted { hash_list result (hashes_of self.new)

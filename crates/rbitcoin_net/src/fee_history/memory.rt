@@ -1,8 +1,12 @@
 // The memory that is lent to a history.
-ghost use Rattle.std.specs.Prelude.{◌≡◌, length};
-ghost use Rattle.rbitcoin_net.specs.Memory.{row_sizes_of, row_sizes_seen, hash_sizes_of, hash_sizes_seen};
+ghost use Rattle.std.specs.Prelude.{◌≡◌};
 
-// The held rows' lists: height, mark, rate and byte count of each, oldest first from a state's start on.
+use rbitcoin_mempool::fee_est::Marked;
+
+// The held rows' lists: height, mark, rate and byte count of each, oldest first from a state's start on. Four lists,
+// with the marks beside the rates: C lends them so. A state comes from C apart from its memory, so that what holds of
+// both stands in contracts: `Reach` of the rows, `Room` of the hashes. One struct of rows, hashes and windows was
+// tried: the contracts of `insert` and `insert_if_absent` across C did not prove with it.
 #[derive(Drop)]
 pub struct RowMemory<'a> {
     pub heights: &'a mut [u32],
@@ -18,7 +22,8 @@ pub struct HashMemory<'a> {
     pub bytes: &'a mut [u8],
 }
 
-// Rows, only to read.
+// Rows, only to read. Two types, here and of the hashes: a view to read is copied and one to write cannot be, and no
+// type parameter stands for `&` and for `&mut`.
 #[derive(Clone, Copy)]
 pub struct RowLists<'a> {
     pub heights: &'a [u32],
@@ -32,21 +37,6 @@ pub struct RowLists<'a> {
 pub struct HashLists<'a> {
     pub heights: &'a [u32],
     pub bytes: &'a [u8],
-}
-
-// How long the lists are.
-#[derive(Clone, Copy)]
-pub struct RowSizes {
-    pub heights: usize,
-    pub marks: usize,
-    pub rates: usize,
-    pub sizes: usize,
-}
-
-#[derive(Clone, Copy)]
-pub struct HashSizes {
-    pub heights: usize,
-    pub bytes: usize,
 }
 
 impl RowMemory<'_> {
@@ -63,28 +53,17 @@ impl RowMemory<'_> {
             sizes: &*self.sizes,
         }
     }
-
-    pub fn sizes(&self) -> RowSizes
-        ensures { result ≡ row_sizes_of self.now }
-    {
-        RowSizes {
-            heights: self.heights.len(),
-            marks: self.marks.len(),
-            rates: self.rates.len(),
-            sizes: self.sizes.len(),
-        }
-    }
 }
 
 impl RowLists<'_> {
-    pub fn sizes(&self) -> RowSizes
-        ensures { result ≡ row_sizes_seen self.now }
+    // The rates with their marks.
+    pub(crate) fn marked(&self) -> Marked<'_>
+        ensures numbers { result.numbers.now ≡ self.now.rates.now }
+        ensures marks { result.marks.now ≡ self.now.marks.now }
     {
-        RowSizes {
-            heights: self.heights.len(),
-            marks: self.marks.len(),
-            rates: self.rates.len(),
-            sizes: self.sizes.len(),
+        Marked {
+            numbers: self.rates,
+            marks: self.marks,
         }
     }
 }
@@ -97,26 +76,6 @@ impl HashMemory<'_> {
         HashLists {
             heights: &*self.heights,
             bytes: &*self.bytes,
-        }
-    }
-
-    pub fn sizes(&self) -> HashSizes
-        ensures { result ≡ hash_sizes_of self.now }
-    {
-        HashSizes {
-            heights: self.heights.len(),
-            bytes: self.bytes.len(),
-        }
-    }
-}
-
-impl HashLists<'_> {
-    pub fn sizes(&self) -> HashSizes
-        ensures { result ≡ hash_sizes_seen self.now }
-    {
-        HashSizes {
-            heights: self.heights.len(),
-            bytes: self.bytes.len(),
         }
     }
 }

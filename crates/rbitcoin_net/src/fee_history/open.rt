@@ -1,14 +1,16 @@
 // What an opening is made of.
-ghost use Rattle.std.specs.Prelude.{◌≡◌};
+ghost use Rattle.std.specs.Prelude.{◌≡◌, length};
 ghost use Rattle.rbitcoin_mempool.specs.Outcome.{refusal_of};
+ghost use Rattle.rbitcoin_net.specs.Memory.{rows_seen, hashes_seen};
 ghost use Rattle.rbitcoin_net.specs.Openings.{fresh_of, memory_refusal};
 
-use super::FeeHistory;
-use super::memory::{HashSizes, RowSizes};
+use super::memory::{HashLists, RowLists};
+use super::{FeeHistory, RECENT_HASHES};
 use rbitcoin_mempool::answer::Refusal;
 use rbitcoin_mempool::fee_analog::AnalogHistory;
 
 // A state with nothing held.
+#[tactic(auto, unfolding(crate::specs::Openings::fresh_of))]
 pub(crate) fn fresh(budget: u64, analog: AnalogHistory) -> FeeHistory
     ensures { result ≡ fresh_of budget analog }
 {
@@ -26,16 +28,19 @@ pub(crate) fn fresh(budget: u64, analog: AnalogHistory) -> FeeHistory
     }
 }
 
-// Rows and hashes of these sizes.
-#[tactic(auto, using(rbitcoin_mempool::proofs::Refusals::refusal_steps), unfolding(crate::specs::Openings::memory_refusal))]
+// Rows and hashes for a capacity.
+#[tactic(auto, using(crate::proofs::Steps::refusal_steps), unfolding(crate::specs::Openings::memory_refusal))]
 pub(crate) fn check_memory(
     capacity: usize,
-    rows: RowSizes,
-    hashes: HashSizes,
+    rows: RowLists,
+    hashes: HashLists,
 ) -> Result<(), Refusal>
-    ensures { refusal_of result ≡ memory_refusal capacity rows.heights rows.marks rows.rates rows.sizes
-        hashes.heights hashes.bytes }
+    ensures { let m = rows_seen rows.entry in
+        let z = hashes_seen hashes.entry in
+        refusal_of result
+        ≡ memory_refusal capacity (length m.heights) (length m.marks) (length m.rates) (length m.sizes)
+        (length z.heights) (length z.bytes) }
 {
     rows.check(capacity)?;
-    hashes.check()
+    hashes.check(RECENT_HASHES)
 }

@@ -12,14 +12,12 @@ ghost use Rattle.rbitcoin_net.specs.Memory.{rows_seen, rated_of};
 ghost use Rattle.rbitcoin_net.specs.Rates.{refreshed, refreshed_in, rate_from, slots, rates_in, answers_in};
 
 use super::FeeHistory;
-use super::inserts::push_newest;
+use super::inserts::push_rate;
 use super::memory::RowLists;
-use super::readers::{stored_mark, stored_number};
-use super::search::{mark_of, number_of, rate_of};
 use rbitcoin_mempool::fee_analog::{
-    AnalogHistory, WindowLists, WindowMemory, historical_confidence_far,
+    AnalogHistory, End, WindowLists, WindowMemory, historical_confidence_far,
 };
-use rbitcoin_mempool::fee_est::CONFIDENCE_NEAR;
+use rbitcoin_mempool::fee_est::{CONFIDENCE_NEAR, MarkedMut};
 
 // The tracked targets' rates, numbers and marks as the state keeps them; the places past them are 0.
 #[derive(Clone, Copy)]
@@ -28,7 +26,8 @@ pub(crate) struct RateSlots {
     pub(crate) marks: [u8; 16],
 }
 
-// 0.999 up to N = 1 and 0.95 farther out.
+// 0.999 up to N = 1 and 0.95 farther out. The estimator's `inclusion_confidence` differs in a constant: with one
+// function of it, these two would still stand, to hand it over.
 #[tactic(auto, using(std::proofs::lemmas::Bool::Decides::nat_tests), unfolding(crate::specs::History::confidence_of))]
 fn confidence_for(n: u32) -> f64
     ensures { result ≡ confidence_of n }
@@ -40,7 +39,9 @@ fn confidence_for(n: u32) -> f64
     }
 }
 
-// The rates of the tracked targets.
+// The rates of the tracked targets. That they are at most 16 is asked here, and is no ghost field of the state: any
+// state comes from C.
+#[tactic(auto, using(crate::proofs::Steps::slotting))]
 fn rate_slots(analog: &AnalogHistory, lists: WindowLists, scratch: &mut [u64]) -> RateSlots
     requires { analog.now.tracked ≤ 16 }
     ensures numbers { let w = windows_seen analog.now lists.entry in
@@ -48,16 +49,19 @@ fn rate_slots(analog: &AnalogHistory, lists: WindowLists, scratch: &mut [u64]) -
     ensures marks { let w = windows_seen analog.now lists.entry in
         result.marks ≡ slots analog.now.tracked (λ d. mark_of (rate_from w (length scratch.old) d)) }
     ensures scratch { let w = windows_seen analog.now lists.entry in
-        ((d : ℕ) → d < analog.now.tracked → rate_from w (length scratch.old) d ≡ none) → scratch.new ≡ scratch.old }
+        ((d : ℕ) → d < analog.now.tracked → rate_from w (length scratch.old) d ≡ none)
+        → scratch.new ≡ scratch.old }
 {
     let mut numbers = [0u64; 16];
     let mut marks = [0u8; 16];
+    let mut out = MarkedMut {
+        numbers: &mut numbers,
+        marks: &mut marks,
+    };
     for d in 0..analog.tracked {
         let n = analog.targets[d];
         let answer = analog.rate_sat_kvb(n, confidence_for(n), lists, scratch);
-        let rate = answer.unwrap_or(None);
-        numbers[d] = number_of(rate);
-        marks[d] = mark_of(rate);
+        out.put(d, answer.unwrap_or(None));
     }
     RateSlots { numbers, marks }
 }
@@ -72,23 +76,19 @@ fn push_rows(
 )
     requires { let m = rows in
         (start + n ≤ length m.marks.now) × (start + n ≤ length m.rates.now) }
-    ensures pushed { windows_of analog.new windows.new
-        ≡ push_all (hurdles_of (tabulate (row_at (rows_seen rows.entry)) start n)) (windows_of analog.old windows.old) }
+    ensures pushed { let hurdles = hurdles_of (tabulate (row_at (rows_seen rows.entry)) start n) in
+        windows_of analog.new windows.new ≡ push_all hurdles (windows_of analog.old windows.old) }
     ensures lent { SameLent windows.old windows.new }
 {
-    for i in 0..n {
-        let at = start + i;
-        push_newest(
-            analog,
-            false,
-            rate_of(rows.marks[at], rows.rates[at]),
-            windows,
-        );
+    let held = rows.marked();
+    for at in start..start + n {
+        push_rate(analog, End::Newest, held.rate_at(at), windows);
     }
 }
 
 impl FeeHistory {
     // The windows, rebuilt from the rows where they are stale.
+    #[tactic(auto, unfolding(crate::specs::Rates::refreshed, crate::specs::Lent::held_rows))]
     fn refresh(&mut self, rows: RowLists, windows: &mut WindowMemory)
         requires { Reach self.old (rows_seen rows) }
         ensures refreshed { let s = self.old in
@@ -132,19 +132,5 @@ impl FeeHistory {
         self.kept_numbers = numbers;
         self.kept_marks = marks;
         self.kept = true;
-    }
-
-    // The kept rates, at the front of the caller's lists.
-    pub(crate) fn put_answers(&self, numbers: &mut [u64], marks: &mut [u8])
-        requires tracked { self.now.analog.tracked ≤ 16 }
-        requires long { let n = self.now.analog.tracked in
-            (n ≤ length numbers.old) × (n ≤ length marks.old) }
-        ensures numbers_after { numbers.new ≡ numbers_of (answers_in self.now) ++ drop self.now.analog.tracked numbers.old }
-        ensures marks_after { marks.new ≡ marks_of (answers_in self.now) ++ drop self.now.analog.tracked marks.old }
-    {
-        for i in 0..self.analog.tracked {
-            numbers[i] = stored_number(self.kept_marks[i], self.kept_numbers[i]);
-            marks[i] = stored_mark(self.kept_marks[i]);
-        }
     }
 }

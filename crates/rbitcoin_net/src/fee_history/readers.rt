@@ -1,37 +1,23 @@
-// What `entries` and `recent_hashes` write to the caller's lists.
-ghost use Rattle.std.specs.Prelude.{◌≡◌, cond, ◌++◌, ◌+◌, ◌≤◌, eqb, length, get_or, drop};
+// What `rates` and `entries` write to the caller's lists.
+ghost use Rattle.std.specs.Prelude.{◌≡◌, ◌++◌, ◌+◌, ◌≤◌, length, drop};
 ghost use Rattle.slices.specs.Lists.{tabulate};
+ghost use Rattle.rbitcoin_mempool.specs.Lists.{SameLists};
+ghost use Rattle.rbitcoin_mempool.specs.Rates.{rate_at, numbers_of, marks_of};
 
-// A stored mark as an answer's: 1 where it is 1, and 0.
-pub(crate) fn stored_mark(mark: u8) -> u8
-    ensures { result ≡ cond (eqb mark 1) 1 0 }
-{
-    u8::from(mark == 1)
-}
+use rbitcoin_mempool::fee_est::{Marked, MarkedMut};
 
-// A stored number as an answer's: 0 where its mark is not 1.
-pub(crate) fn stored_number(mark: u8, number: u64) -> u64
-    ensures { result ≡ cond (eqb mark 1) number 0 }
-{
-    if mark == 1 { number } else { 0 }
-}
-
-// The marks of n rows from a place on.
-pub(crate) fn put_marks(out: &mut [u8], marks: &[u8], start: usize, n: usize)
-    requires { (start + n ≤ length marks.now) × (n ≤ length out.old) }
-    ensures { out.new ≡ tabulate (λ i. cond (eqb (get_or marks.now i 0) 1) 1 0) start n ++ drop n out.old }
+// n rates from a place on, at the front of the output: the number and 1, or 0 and 0 where it is missing.
+#[tactic(auto, using(crate::proofs::Tables::table_done))]
+pub(crate) fn put_rates(out: &mut MarkedMut, held: Marked, start: usize, n: usize)
+    requires held { (start + n ≤ length held.numbers.now) × (start + n ≤ length held.marks.now) }
+    requires fits { (n ≤ length out.old.numbers.now) × (n ≤ length out.old.marks.now) }
+    ensures numbers { let rates = tabulate (rate_at held.entry.numbers.now held.entry.marks.now) start n in
+        out.new.numbers.now ≡ numbers_of rates ++ drop n out.old.numbers.now }
+    ensures marks { let rates = tabulate (rate_at held.entry.numbers.now held.entry.marks.now) start n in
+        out.new.marks.now ≡ marks_of rates ++ drop n out.old.marks.now }
+    ensures lent { SameLists out.old out.new }
 {
     for i in 0..n {
-        out[i] = stored_mark(marks[start + i]);
-    }
-}
-
-// Their rates.
-pub(crate) fn put_rates(out: &mut [u64], marks: &[u8], rates: &[u64], start: usize, n: usize)
-    requires { (start + n ≤ length marks.now) × (start + n ≤ length rates.now) × (n ≤ length out.old) }
-    ensures { out.new ≡ tabulate (λ i. cond (eqb (get_or marks.now i 0) 1) (get_or rates.now i 0) 0) start n ++ drop n out.old }
-{
-    for i in 0..n {
-        out[i] = stored_number(marks[start + i], rates[start + i]);
+        out.put(i, held.rate_at(start + i));
     }
 }

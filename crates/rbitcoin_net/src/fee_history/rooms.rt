@@ -4,7 +4,6 @@ ghost use Rattle.rbitcoin_net.specs.Memory.{rows_of, SameRows};
 ghost use Rattle.rbitcoin_net.specs.Rooms.{row_put, start_with, stored, hold_at, Roomy};
 
 use super::memory::RowMemory;
-use super::search::{mark_of, number_of};
 use super::{FeeHistory, HistoricalFeeBlock};
 use slices::moves::copy_within;
 
@@ -46,6 +45,7 @@ impl FeeHistory {
     }
 
     // A row put in at rank q of the held rows, and its bytes added.
+    #[tactic(auto, unfolding(crate::specs::Rooms::hold_at))]
     pub(crate) fn hold_at(
         &mut self,
         q: usize,
@@ -55,7 +55,8 @@ impl FeeHistory {
     )
         requires { let m = rows.old in
             Roomy q self.old (length m.heights.now) (length m.marks.now) (length m.rates.now) (length m.sizes.now) }
-        ensures held { stored self.new (rows_of rows.new) ≡ hold_at q height block (stored self.old (rows_of rows.old)) }
+        ensures held { stored self.new (rows_of rows.new)
+            ≡ hold_at q height block (stored self.old (rows_of rows.old)) }
         ensures lent { SameRows rows.old rows.new }
     {
         let to = self.start_with(q);
@@ -63,8 +64,8 @@ impl FeeHistory {
         let behind = self.count - q;
         let rate = block.p10_sat_kvb;
         open(rows.heights, from, to, q, behind, height);
-        open(rows.marks, from, to, q, behind, mark_of(rate));
-        open(rows.rates, from, to, q, behind, number_of(rate));
+        open(rows.marks, from, to, q, behind, rate.is_some() as u8);
+        open(rows.rates, from, to, q, behind, rate.unwrap_or(0));
         open(rows.sizes, from, to, q, behind, block.txstat_bytes);
         self.start = to;
         self.count += 1;

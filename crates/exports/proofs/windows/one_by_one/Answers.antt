@@ -1,7 +1,6 @@
 -- `exports::windows::one_by_one` meets its contract: the fields are those of the answer. Assumes nothing.
 use mathlib.Core.Path.{◌≡◌, sym}
 use lib.ListN.{length}
-use Prim.Native.Nat.{ℕ}
 use Rattle.exports.proofs.OneByOne.{next, end}
 use Rattle.exports.proofs.windows.one_by_one.Goals as goal
 

@@ -6,7 +6,4 @@ use Rattle.replay_lines.proofs.question.read_words.Given as goal
 
 abbrev pub invariant-loop-i : goal.invariant-loop-i
 invariant-loop-i l =
-    record {
-      same_length : length l.out ≡ length l.initial.out;
-      words_put : l.out ≡ over (take l.i (words_of l.line (length (up_to 32 l.line)) 512)) l.initial.out;
-    }
+    l.out ≡ over (take l.i (words_of l.line (length (up_to 32 l.line)) 512)) l.initial.out

@@ -11,7 +11,7 @@ pub struct Model {
     pub memory: Memory,
 }
 
-/// Search.antt, `bisect`: where heights ascend, the first place whose height is at least `height`.
+/// `bisect` in crates/slices/specs/Search.antt: where heights ascend, the first place whose height is at least `height`.
 fn bisect(heights: &[u32], height: u32, mut low: usize, mut high: usize) -> usize {
     while low < high {
         let middle = low + (high - low) / 2;

@@ -29,12 +29,12 @@ returns c =
     let xs = c.args.outcomes.now in
     let s = c.sort.new.xs in
     let r : c.rank_of-rank.result ≡ rank_of c.args.confidence (length xs) = c.rank_of-rank.ensures ∙ ap (rank_of c.args.confidence) c.sort.auto.xs in
-    let a : c.unwrap_or-a.result ≡ get_or s c.lower_place.result 0 = search rules in
-    let b : c.unwrap_or-b.result ≡ get_or s c.upper_place.result 0 = search rules in
+    let a : c.unwrap_or-a.result ≡ get_or s c.places_around-lower.result.0 0 = search rules in
+    let b : c.unwrap_or-b.result ≡ get_or s c.places_around-lower.result.1 0 = search rules in
     let q =
-    quantile-by c.args.confidence xs c.rank_of-rank.result _ _ _ _ _ r c.lower_place.ensures c.upper_place.ensures
-    (a ∙ ap (λ l. get_or l c.lower_place.result 0) c.sort.ensures)
-    (b ∙ ap (λ l. get_or l c.upper_place.result 0) c.sort.ensures)
+    quantile-by c.args.confidence xs c.rank_of-rank.result _ _ _ _ _ r c.places_around-lower.ensures.0 c.places_around-lower.ensures.1
+    (a ∙ ap (λ l. get_or l c.places_around-lower.result.0 0) c.sort.ensures)
+    (b ∙ ap (λ l. get_or l c.places_around-lower.result.1 0) c.sort.ensures)
     c.between_neighbors.ensures in
     record {
       result_value = ap rate q ∙ quantile-found c.args.confidence xs (λ e. search rules) h;

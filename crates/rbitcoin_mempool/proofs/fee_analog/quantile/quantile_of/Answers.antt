@@ -6,8 +6,8 @@ pub returns-then-upper-count_at_most : goal.returns-then-upper-count_at_most
 returns-then-upper-count_at_most c =
     quantile-by c.args.confidence c.args.xs.now c.rank_of-rank.result _ _ _ _ _
     c.rank_of-rank.ensures
-    c.lower_place-lower.ensures
-    c.upper_place-upper.ensures
+    c.places_around-lower.ensures.0
+    c.places_around-lower.ensures.1
     c.nth_smallest-a.ensures
     (repeated _ _ c.args.xs.now _ _ c.nth_smallest-a.ensures c.count_at_most.ensures c.if-lower-upper.true c.if-upper-count_at_most.true)
     c.between_neighbors.ensures
@@ -16,8 +16,8 @@ pub returns : goal.returns
 returns c =
     quantile-by c.args.confidence c.args.xs.now c.rank_of-rank.result _ _ _ _ _
     c.rank_of-rank.ensures
-    c.lower_place-lower.ensures
-    c.upper_place-upper.ensures
+    c.places_around-lower.ensures.0
+    c.places_around-lower.ensures.1
     c.nth_smallest-a.ensures
     c.nth_smallest-b.ensures
     c.between_neighbors-2.ensures

@@ -1,5 +1,5 @@
 -- `fee_history::FeeHistory::cut_at` meets its contract. Assumes nothing.
-use mathlib.Core.Path.{◌≡◌, refl, sym, ap, ◌∙◌}
+use mathlib.Core.Path.{ap, ◌∙◌}
 use native.Mathlib.Omega.{arith}
 use Rattle.rbitcoin_mempool.specs.Windows.{pop_back_of}
 use Rattle.rbitcoin_net.specs.declared.fee_history.FeeHistory.{FeeHistory}
@@ -8,22 +8,16 @@ use Rattle.rbitcoin_net.specs.Memory.{rows_seen}
 use Rattle.rbitcoin_net.proofs.Cuts.{forgotten-at, rows_turn, rows_none, cut-done}
 use Rattle.rbitcoin_net.proofs.fee_history.FeeHistory.cut_at.Goals as goal
 
-pub loop-i-init : goal.loop-i-init
-loop-i-init c = record { first = omega arith; start = refl; state = refl }
-
 pub loop-i-preserved : goal.loop-i-preserved
 unfolding forget_row
 loop-i-preserved c =
     let m = rows_seen c.args.rows in
-    let e = forgotten-at pop_back_of m c.loop-i.i _ _ _ c.block_at.ensures c.forget_back.ensures in
+    let e = forgotten-at pop_back_of m c.loop-i.i _ _ _ c.block_at.ensures c.forget.ensures in
     record {
       first = omega arith;
       start = ap (λ (t : FeeHistory). t.start) e ∙ c.loop-i.invariant.start;
       state = rows_turn _ _ _ _ c.loop-i.i _ _ (omega arith) e c.loop-i.invariant.state;
     }
-
-pub overflow_sub-self : goal.overflow_sub-self
-overflow_sub-self c = let s = c.loop-i.invariant.start in let p = c.requires.place in omega arith
 
 pub returns : goal.returns
 returns c =

@@ -1,17 +1,13 @@
 -- `fee_history::FeeHistory::insert` meets its contract. Assumes nothing.
-use Rattle.std.proofs.Common.{◌≡◌, ℕ, sym, ◌∙◌, subst, refl}
-use Rattle.rbitcoin_mempool.specs.Outcome.{Verdict, verdict}
+use Rattle.std.proofs.Common.{sym, subst, refl}
+use Rattle.rbitcoin_mempool.specs.Outcome.{Verdict}
 use Rattle.rbitcoin_mempool.proofs.Refusals.{some_number}
-use Rattle.rbitcoin_mempool.specs.declared.fee_analog.memory.WindowSizes.{WindowSizes}
 use Rattle.rbitcoin_net.specs.Hashes.{hash_of}
-use Rattle.rbitcoin_net.specs.Inserts.{Inserts, sizes_refusal, whole}
+use Rattle.rbitcoin_net.specs.Inserts.{Inserts, whole}
 use Rattle.rbitcoin_net.specs.Memory.{lent_of}
-use Rattle.rbitcoin_net.specs.declared.fee_history.memory.RowSizes.{RowSizes}
-use Rattle.rbitcoin_net.specs.declared.fee_history.memory.HashSizes.{HashSizes}
 use Rattle.rbitcoin_net.proofs.Passed.{verdict_err}
 use Rattle.rbitcoin_net.proofs.Inserting.{hash-whole}
 use Rattle.rbitcoin_net.proofs.Connects.{insert-refused}
-use Rattle.rbitcoin_net.proofs.Connecting.{sizes_of, lent_is}
 use Rattle.rbitcoin_net.proofs.Connecting.{insert_short}
 use Rattle.rbitcoin_net.proofs.fee_history.FeeHistory.insert.Goals as goal
 
@@ -19,23 +15,19 @@ pub returns-in_err-check_lent-clause-inserted : goal.returns-in_err-check_lent-c
 returns-in_err-check_lent-clause-inserted c =
     let s = c.args.self.now in
     let m = lent_of c.args.rows.now c.args.hashes.now c.args.windows.now in
-    let by : RowSizes → HashSizes → WindowSizes → ℕ = λ r z w. sizes_refusal s
-    r.heights r.marks r.rates r.sizes z.heights z.bytes w.hurdles w.befores w.aheads in
-    let same : by c.sizes.result c.sizes-2.result c.sizes-3.result ≡ sizes_of s m =
-    λ i. by (c.sizes.ensures i) (c.sizes-2.ensures i) (c.sizes-3.ensures i) in
-    let e = c.in_err-check_lent.ensures ∙ same in
+    let h = c.args.height in
+    let hash = hash_of c.args.hash in
+    let l = c.lists.ensures in
+    let y = c.lists-2.ensures in
+    let w = c.lists-3.ensures in
+    let k = rw (l.heights, l.marks, l.rates, l.sizes, y.heights, y.bytes, w.hurdles, w.befores, w.aheads) at c.in_err-check_lent.ensures in
     let n = some_number _ _ refl in
-    subst (λ (v : Verdict). Inserts c.args.height c.args.block (hash_of c.args.hash) (whole s m) v (whole s m))
-    (sym (verdict_err _ _ c.from_residual.ensures.1))
-    (insert-refused c.args.height c.args.block (hash_of c.args.hash) c.ranges.height.fits (hash-whole c.args.hash) (whole s m) _
-    (insert_short c.args.height s m _ e n) n)
+    subst (λ (v : Verdict). Inserts h c.args.block hash (whole s m) v (whole s m)) (sym (verdict_err _ _ c.from_residual.ensures.1))
+    (insert-refused h c.args.block hash c.ranges.height.fits (hash-whole c.args.hash) (whole s m) _ (insert_short h s m _ k n) n)
 
 pub insert_lent-requires : goal.insert_lent-requires
 insert_lent-requires c =
-    let s = c.args.self.now in
-    let m = lent_of c.args.rows.now c.args.hashes.now c.args.windows.now in
-    let by : RowSizes → HashSizes → WindowSizes → ℕ = λ r z w. sizes_refusal s
-    r.heights r.marks r.rates r.sizes z.heights z.bytes w.hurdles w.befores w.aheads in
-    let same : by c.sizes.result c.sizes-2.result c.sizes-3.result ≡ sizes_of s m =
-    λ i. by (c.sizes.ensures i) (c.sizes-2.ensures i) (c.sizes-3.ensures i) in
-    sym (c.in_ok-check_lent.ensures ∙ same ∙ lent_is c.args.height s m _ refl)
+    let l = c.lists.ensures in
+    let y = c.lists-2.ensures in
+    let w = c.lists-3.ensures in
+    sym (rw (l.heights, l.marks, l.rates, l.sizes, y.heights, y.bytes, w.hurdles, w.befores, w.aheads) at c.in_ok-check_lent.ensures)

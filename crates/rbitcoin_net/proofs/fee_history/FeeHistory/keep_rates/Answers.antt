@@ -1,13 +1,10 @@
 -- `fee_history::FeeHistory::keep_rates` meets its contract. Assumes nothing.
-use Prim.Native.Nat.{◌≤◌}
-use mathlib.Core.Path.{◌≡◌, sym, ap, ◌∙◌}
+use mathlib.Core.Path.{ap, ◌∙◌}
 use native.Mathlib.Omega.{arith}
 use lib.ListN.{length}
-use Rattle.rbitcoin_mempool.specs.Memory.{windows_of, windows_seen}
-use Rattle.rbitcoin_mempool.specs.Windows.{windows}
 use Rattle.rbitcoin_net.specs.declared.fee_history.FeeHistory.{FeeHistory}
 use Rattle.rbitcoin_net.specs.Memory.{rated_of, rows_seen}
-use Rattle.rbitcoin_net.specs.Rates.{Rated, keeping, rated}
+use Rattle.rbitcoin_net.specs.Rates.{keeping}
 use Rattle.rbitcoin_net.proofs.Rates.{kept-answers, fresh-answers, fresh_tracked, fresh-scratch}
 use Rattle.rbitcoin_net.proofs.fee_history.FeeHistory.keep_rates.Goals as goal
 
@@ -28,12 +25,10 @@ returns-clause-rates c =
     let x = rated_of c.args.self.now c.args.windows.now in
     let a = c.refresh.new.self.analog in
     let l = c.lists.ensures in
-    let same : windows_seen a c.lists.result ≡ windows_of a c.refresh.new.windows =
-    λ i. windows a (l.hurdles i) (l.befores i) (l.aheads i) in
     let f = c.rate_slots-found in
     ap (λ (s : FeeHistory). rated_of (keeping a f.result.numbers f.result.marks s) c.refresh.new.windows) c.refresh.ensures.state
     ∙ fresh-answers z m x a _ _ _ f.result.numbers f.result.marks c.if-self.false c.refresh.ensures.refreshed
-    (rw same at f.ensures.numbers) (rw same at f.ensures.marks)
+    (rw (l.hurdles, l.befores, l.aheads) at f.ensures.numbers) (rw (l.hurdles, l.befores, l.aheads) at f.ensures.marks)
 
 pub returns-clause-scratch_unread : goal.returns-clause-scratch_unread
 returns-clause-scratch_unread c =
@@ -42,6 +37,4 @@ returns-clause-scratch_unread c =
     let x = rated_of c.args.self.now c.args.windows.now in
     let a = c.refresh.new.self.analog in
     let l = c.lists.ensures in
-    let same : windows_seen a c.lists.result ≡ windows_of a c.refresh.new.windows =
-    λ i. windows a (l.hurdles i) (l.befores i) (l.aheads i) in
-    λ h. (rw same at c.rate_slots-found.ensures.scratch) (fresh-scratch z m x a _ _ _ c.refresh.ensures.refreshed h)
+    λ h. (rw (l.hurdles, l.befores, l.aheads) at c.rate_slots-found.ensures.scratch) (fresh-scratch z m x a _ _ _ c.refresh.ensures.refreshed h)

@@ -1,7 +1,4 @@
 -- `fee_history::FeeHistory::store` meets its contract. Assumes nothing.
-use mathlib.Core.Path.{◌≡◌}
-use Rattle.rbitcoin_net.specs.Lent.{rows}
-use Rattle.rbitcoin_net.specs.Memory.{rows_of, rows_seen}
 use Rattle.rbitcoin_net.proofs.Inserting.{hold-room, evict_ready, note_ready, stored_all}
 use Rattle.rbitcoin_net.proofs.fee_history.FeeHistory.store.Goals as goal
 
@@ -24,13 +21,11 @@ evict-requires-clause-reach c =
 
 pub evict-requires-clause-room : goal.evict-requires-clause-room
 evict-requires-clause-room c =
-    note_ready _ _ _ c.args.hash _ _ c.note-self.ensures.noted
+    note_ready _ _ _ c.args.new.hash _ _ c.note-self.ensures.noted
     (hold-room _ _ _ _ _ _ _ _ c.hold_at.ensures.held c.requires.room)
 
 pub returns-clause-stored : goal.returns-clause-stored
 returns-clause-stored c =
     let l = c.lists.ensures in
-    let same : rows_seen c.lists.result ≡ rows_of c.hold_at.new.rows =
-    λ i. rows (l.heights i) (l.marks i) (l.rates i) (l.sizes i) in
     stored_all _ _ _ _ _ _ _ _ _ _ _ _ _ _ _ _ c.hold_at.ensures.held c.note-self.ensures.noted
-    (rw same at c.evict.ensures.evicted)
+    (rw (l.heights, l.marks, l.rates, l.sizes) at c.evict.ensures.evicted)

@@ -4,6 +4,7 @@ use mathlib.Core.Option.{none}
 use mathlib.Core.Path.{◌≡◌}
 use lib.ListN.{length}
 use Rattle.slices.specs.Lists.{tabulate}
+use Rattle.rbitcoin_mempool.specs.Lists.{SameLists}
 use Rattle.rbitcoin_mempool.specs.Memory.{windows_seen}
 use Rattle.rbitcoin_mempool.specs.Rates.{number_of, mark_of}
 use Rattle.rbitcoin_mempool.proofs.Padding.{Padding}
@@ -16,7 +17,8 @@ invariant-loop-d l =
     let z = length l.initial.scratch in
     record {
       long : length l.scratch ≡ z;
-      numbers : Padding (tabulate (λ k. number_of (rate_from w z k)) 0 16) l.numbers l.d;
-      marks : Padding (tabulate (λ k. mark_of (rate_from w z k)) 0 16) l.marks l.d;
+      numbers : Padding (tabulate (λ k. number_of (rate_from w z k)) 0 16) l.out.numbers.now l.d;
+      marks : Padding (tabulate (λ k. mark_of (rate_from w z k)) 0 16) l.out.marks.now l.d;
       scratch : ((k : ℕ) → k < l.d → rate_from w z k ≡ none) → l.scratch ≡ l.initial.scratch;
+      lent : SameLists l.initial.out l.out;
     }

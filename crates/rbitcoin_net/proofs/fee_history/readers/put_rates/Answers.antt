@@ -1,27 +1,21 @@
 -- `fee_history::readers::put_rates` meets its contract. Assumes nothing.
-use native.Mathlib.Omega.{arith}
-use mathlib.Core.Path.{refl}
-use mathlib.Core.Bool.{cond}
-use Prim.Native.Nat.{ℕ}
-use lib.Dec.{eqb}
-use lib.ListN.{length-set, get_or}
-use Rattle.rbitcoin_net.proofs.Tables.{table_turn, table_done}
+use mathlib.Core.Path.{ap, ◌∙◌}
+use lib.ListN.{length-set}
+use borrow.Author.Rules.{rules}
+use Rattle.rbitcoin_mempool.specs.Rates.{rate_at, number_of, mark_of}
+use Rattle.rbitcoin_net.proofs.Tables.{table_turn}
 use Rattle.rbitcoin_net.proofs.fee_history.readers.put_rates.Goals as goal
-
-pub loop-i-init : goal.loop-i-init
-loop-i-init c = (refl, refl)
 
 pub loop-i-preserved : goal.loop-i-preserved
 loop-i-preserved c =
-    let f = (λ (k : ℕ). cond (eqb (get_or c.args.marks.now k 0) 1) (get_or c.args.rates.now k 0) 0) in (
-      simp length-set c.loop-i.invariant.0,
-      table_turn f c.args.start c.args.n c.args.out.now c.requires.2 c.loop-i.out c.loop-i.i _ (omega arith) c.stored_number.ensures c.loop-i.invariant.1,
-    )
-
-pub shape_of-out : goal.shape_of-out
-shape_of-out c = c.loop-i.invariant.0
-
-pub returns : goal.returns
-returns c =
-    let f = (λ (k : ℕ). cond (eqb (get_or c.args.marks.now k 0) 1) (get_or c.args.rates.now k 0) 0) in
-    table_done f c.args.start c.args.n c.args.out.now c.requires.2 c.loop-i.out c.loop-i.i (omega arith) c.loop-i.invariant.1
+    let v = c.loop-i.invariant in
+    let f = rate_at c.args.held.numbers.now c.args.held.marks.now in
+    let e = c.rate_at.ensures in
+    let p = c.put.ensures in
+    record {
+      many = rw p.numbers_after (simp length-set v.many);
+      long = rw p.marks_after (simp length-set v.long);
+      numbers = p.numbers_after ∙ table_turn number_of f _ _ _ c.requires.fits.0 _ c.loop-i.i _ c.loop-i-test.true (ap number_of e) v.numbers;
+      marks = p.marks_after ∙ table_turn mark_of f _ _ _ c.requires.fits.1 _ c.loop-i.i _ c.loop-i-test.true (ap mark_of e) v.marks;
+      lent = search rules;
+    }

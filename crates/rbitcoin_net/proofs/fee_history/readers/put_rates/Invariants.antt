@@ -1,13 +1,21 @@
 -- `fee_history::readers::put_rates` meets its contract. Assumes nothing.
 use mathlib.Core.Path.{◌≡◌}
-use mathlib.Core.Bool.{cond}
 use mathlib.Core.List.{◌++◌}
-use lib.Dec.{eqb}
-use lib.ListN.{length, get_or, take, drop}
+use lib.ListN.{length, take, drop}
 use Rattle.slices.specs.Lists.{tabulate}
+use Rattle.rbitcoin_mempool.specs.Lists.{SameLists}
+use Rattle.rbitcoin_mempool.specs.Rates.{rate_at, numbers_of, marks_of}
 use Rattle.rbitcoin_net.proofs.fee_history.readers.put_rates.Given as goal
 
 abbrev pub invariant-loop-i : goal.invariant-loop-i
 invariant-loop-i l =
-    (length l.out ≡ length l.initial.out)
-    × (l.out ≡ take l.i (tabulate (λ k. cond (eqb (get_or l.marks k 0) 1) (get_or l.rates k 0) 0) l.start l.n) ++ drop l.i l.initial.out)
+    let ns = l.fn.out.numbers.now in
+    let ms = l.fn.out.marks.now in
+    let rates = tabulate (rate_at l.held.numbers.now l.held.marks.now) l.start l.n in
+    record {
+      many : length l.out.numbers.now ≡ length ns;
+      long : length l.out.marks.now ≡ length ms;
+      numbers : l.out.numbers.now ≡ take l.i (numbers_of rates) ++ drop l.i ns;
+      marks : l.out.marks.now ≡ take l.i (marks_of rates) ++ drop l.i ms;
+      lent : SameLists l.fn.out l.out;
+    }

@@ -1,5 +1,4 @@
 -- `fee_history::rooms::open` meets its contract. Assumes nothing.
-use mathlib.Core.Path.{sym, ◌∙◌}
 use Rattle.rbitcoin_net.proofs.Rooms.{open-down, open_up}
 use Rattle.rbitcoin_net.proofs.fee_history.rooms.open.Goals as goal
 use Rattle.rbitcoin_net.proofs.fee_history.rooms.open.Goals.{then-to-from, else-to-from}

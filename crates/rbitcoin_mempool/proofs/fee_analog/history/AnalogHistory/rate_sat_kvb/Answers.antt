@@ -10,14 +10,14 @@ use Rattle.rbitcoin_mempool.specs.Quantile.{quantile_of}
 use Rattle.rbitcoin_mempool.specs.Scan.{now_of, rate_in, rate_sat_kvb, scan_refusal}
 use Rattle.rbitcoin_mempool.specs.Windows.{held_in, stored_pairs, target_at}
 use Rattle.rbitcoin_mempool.proofs.Refusals.{scan-accepted}
-use Rattle.rbitcoin_mempool.proofs.Scans.{answer-given, answer-passed, rate-few, rate-found, rate_unsure, rate_untracked, scan-sized, tracked-windows}
+use Rattle.rbitcoin_mempool.proofs.Scans.{answer-given, answer-passed, rate-few, rate-found, rate_unsure, rate_untracked, tracked-windows}
 use Rattle.rbitcoin_mempool.proofs.Targets.{found_at, found_none}
 use Rattle.rbitcoin_mempool.proofs.fee_analog.history.AnalogHistory.rate_sat_kvb.Goals as goal
 use Rattle.rbitcoin_mempool.proofs.fee_analog.history.AnalogHistory.rate_sat_kvb.Goals.{In_ok-check_scan, After-count_in-pairs, then-pairs-lt-ANALOG_READY_PAIRS-via-then-pairs-lt-ANALOG_READY_PAIRS, then-pairs-lt-ANALOG_READY_PAIRS-via-else-pairs-lt-ANALOG_READY_PAIRS+then-not-in_unit}
 
 -- nothing is refused
 taken : (c : In_ok-check_scan) → scan_refusal c.args.self.now (length c.args.lists.hurdles.now) (length c.args.lists.befores.now) (length c.args.lists.aheads.now) (length c.args.scratch.now) ≡ 0
-taken c = sym (c.in_ok-check_scan.ensures ∙ scan-sized c.args.self.now c.args.lists (length c.args.scratch.now) _ c.sizes.ensures)
+taken c = sym (c.in_ok-check_scan.ensures)
 
 counted : (c : After-count_in-pairs) → c.count_in-pairs.result ≡ windows_in c.args.self.now.count c.args.n_blocks
 unfolding windows_in
@@ -27,7 +27,7 @@ pub returns-in_err-check_scan-clause-rate : goal.returns-in_err-check_scan-claus
 unfolding rate_sat_kvb
 returns-in_err-check_scan-clause-rate c =
     answer-passed _ _ _ (rate_in (windows_seen c.args.self.now c.args.lists) c.args.n_blocks c.args.confidence) c.from_residual.ensures.1
-    (c.in_err-check_scan.ensures ∙ scan-sized c.args.self.now c.args.lists (length c.args.scratch.now) _ c.sizes.ensures)
+    (c.in_err-check_scan.ensures)
 
 pub find_target-requires : goal.find_target-requires
 find_target-requires c = let v = scan-accepted _ _ _ _ _ (taken c) in v.0.few

@@ -12,11 +12,11 @@ use Rattle.rbitcoin_mempool.proofs.fee_analog.history.AnalogHistory.rebuild.Goal
 
 -- nothing is refused
 taken : (c : In_ok-check_rebuild) → rebuild_refusal_of c.args.from.now (windows_of c.args.self.now c.args.memory.now) ≡ 0
-taken c = sym (c.in_ok-check_rebuild.ensures ∙ rebuild-sized c.args.self.now c.args.memory.now _ c.sizes.ensures c.args.from.now)
+taken c = sym (c.in_ok-check_rebuild.ensures ∙ rebuild-sized c.args.self.now c.args.memory.now c.lists.result c.lists.ensures.hurdles c.lists.ensures.befores c.lists.ensures.aheads c.args.from.now)
 
 pub returns-in_err-check_rebuild : goal.returns-in_err-check_rebuild
 returns-in_err-check_rebuild c =
-    let e = c.in_err-check_rebuild.ensures ∙ rebuild-sized c.args.self.now c.args.memory.now _ c.sizes.ensures c.args.from.now in
+    let e = c.in_err-check_rebuild.ensures ∙ rebuild-sized c.args.self.now c.args.memory.now c.lists.result c.lists.ensures.hurdles c.lists.ensures.befores c.lists.ensures.aheads c.args.from.now in
     record {
       refusal = verdict_passed _ _ _ c.from_residual.ensures.1 e;
       after = rebuild-refused c.args.from.now _ (some_number _ _ e);
