@@ -71,10 +71,20 @@ fn array(rust: &str) -> Option<String> {
     Some(format!("{element}[{}]", length(places)))
 }
 
+/// `&'a mut [u64]` as `&mut [u64]`: C has no lifetimes.
+fn without_lifetime(rust: &str) -> String {
+    match rust.strip_prefix("&'").and_then(|of| of.split_once(' ')) {
+        Some((_, of)) => format!("&{of}"),
+        None => rust.to_string(),
+    }
+}
+
 /// A parameter or a field of Rust or Rattle. A slice is two of C's, an array behind a reference one.
 fn rust_shape(declared: &str) -> Vec<String> {
     let (name, of) = declared.split_once(": ").expect("a name and its type");
     let name = name.trim().rsplit(' ').next().expect("a name");
+    let of = without_lifetime(of);
+    let of = of.as_str();
     let slice = |of: &str| {
         of.strip_suffix(']')
             .filter(|of| !of.contains(';'))
@@ -110,6 +120,8 @@ fn rust_functions(text: &str, before: &str) -> Shapes {
     let mut shapes = Shapes::new();
     for declared in text.split(before).skip(1) {
         let (name, rest) = declared.split_once('(').expect("parameters");
+        // Without a lifetime's parameter, as in `juleyomu_history_insert<'a>`.
+        let name = name.split("<'").next().unwrap_or(name);
         if !name.starts_with("juleyomu_") {
             continue;
         }

@@ -8,9 +8,9 @@
 use rbitcoin_mempool::answer::{Rate, Refusal};
 use rbitcoin_mempool::fee_est;
 use rbitcoin_mempool::fee_est::{DepthLists, Marked, MarkedMut};
-use replay_lines::put;
 use replay_lines::question::Question;
 use replay_lines::words::Words;
+use replay_lines::{Answers, put};
 use std::io;
 use std::io::Write;
 
@@ -140,24 +140,30 @@ fn lerp(mut words: Words) -> u64 {
     )
 }
 
-fn answer<W: Write>(to: &mut W, question: Question) -> io::Result<()> {
-    let mut words = question.words;
-    match question.name {
-        b"blend_weight" => put::float(to, fee_est::blend_weight(words.next())),
-        b"flow_for_depth" => put_rate(to, of_depth(fee_est::flow_for_depth, words)),
-        b"blend_sat_kvb" => put_rate(to, of_depth(fee_est::blend_sat_kvb, words)),
-        b"warmup_blend" => put_rate(to, warmup(words)),
-        b"depth_rate_sat_kvb" => put_rate(to, depth_rate(words)),
-        b"published_depth_rate" => put_rate(to, published(words)),
-        b"lerp_sat_kvb" => put::only(to, lerp(words)),
-        b"enforce_monotone_desc" => monotone(to, words),
-        b"hold_defined_then_monotone" => hold(to, words),
-        b"published_depth_rates" => publish(to, words),
-        b"fee_at_target_sat_kvb" => put::only_rate(to, lookup(words)),
-        _ => put::unknown(to),
+// What answers this part's questions.
+#[derive(Clone, Copy)]
+struct Part;
+
+impl<W: Write> Answers<W> for Part {
+    fn answer(&self, to: &mut W, question: Question) -> io::Result<()> {
+        let mut words = question.words;
+        match question.name {
+            b"blend_weight" => put::float(to, fee_est::blend_weight(words.next())),
+            b"flow_for_depth" => put_rate(to, of_depth(fee_est::flow_for_depth, words)),
+            b"blend_sat_kvb" => put_rate(to, of_depth(fee_est::blend_sat_kvb, words)),
+            b"warmup_blend" => put_rate(to, warmup(words)),
+            b"depth_rate_sat_kvb" => put_rate(to, depth_rate(words)),
+            b"published_depth_rate" => put_rate(to, published(words)),
+            b"lerp_sat_kvb" => put::only(to, lerp(words)),
+            b"enforce_monotone_desc" => monotone(to, words),
+            b"hold_defined_then_monotone" => hold(to, words),
+            b"published_depth_rates" => publish(to, words),
+            b"fee_at_target_sat_kvb" => put::only_rate(to, lookup(words)),
+            _ => put::unknown(to),
+        }
     }
 }
 
 fn main(rt: HostRuntime) -> io::Result<()> {
-    replay_lines::answer_all(&mut rt.stdin(), &mut rt.stdout(), answer)
+    replay_lines::answer_all(&mut rt.stdin(), &mut rt.stdout(), &Part)
 }

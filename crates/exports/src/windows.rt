@@ -76,7 +76,7 @@ impl From<Result<usize, Refusal>> for CountFields {
         (counted_of fields.refusal fields.count ≡ n)
         × (fields.refusal ≡ count_refusal n) × (fields.count ≡ count_number n) };
 
-    #[tactic(auto, using(crate::proofs::Verdicts::counted_back))]
+    #[tactic(auto, using(crate::proofs::Verdicts::count_steps))]
     fn from(a: Result<usize, Refusal>) -> CountFields {
         match a {
             Ok(count) => CountFields { refusal: 0, count },

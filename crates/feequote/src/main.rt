@@ -45,7 +45,7 @@ fn read_some<I: Read>(input: &mut I, reader: &mut Reader) -> Result<usize, Failu
 
 // A proved loop has to end, and nothing says that the input does. So the loop counts its turns, to a
 // number that no run comes to.
-#[tactic(auto, using(crate::proofs::Feeds::fed_still, crate::proofs::Feeds::fed_on))]
+#[tactic(auto, using(crate::proofs::Feeds::fed_first, crate::proofs::Feeds::fed_on))]
 fn read_all<I: Read>(input: &mut I, reader: &mut Reader) -> Result<(), Failure>
     ensures fed { Fed (I.remaining input.old) (I.remaining input.new) reader.old reader.new }
     ensures end { OnOk result (IsAtEnd (I.remaining input.new)) }

@@ -12,9 +12,9 @@ use rbitcoin_net::fee_history::{
     BlockHash, FeeHistory, HashLists, HashMemory, HistoricalFeeBlock, RowLists, RowMemory,
 };
 use replay_lines::digests::{Hurdles, digest, mix};
-use replay_lines::put;
 use replay_lines::question::Question;
 use replay_lines::words::{Low, Words, at_most, word_at};
+use replay_lines::{Answers, put};
 use std::io;
 use std::io::Write;
 
@@ -338,14 +338,20 @@ fn rates<W: Write>(to: &mut W, mut words: Words) -> io::Result<()> {
     put::newline(to)
 }
 
-fn answer<W: Write>(to: &mut W, question: Question) -> io::Result<()> {
-    match question.name {
-        b"calls" => calls(to, question.words),
-        b"rates" => rates(to, question.words),
-        _ => put::unknown(to),
+// What answers this part's questions.
+#[derive(Clone, Copy)]
+struct Part;
+
+impl<W: Write> Answers<W> for Part {
+    fn answer(&self, to: &mut W, question: Question) -> io::Result<()> {
+        match question.name {
+            b"calls" => calls(to, question.words),
+            b"rates" => rates(to, question.words),
+            _ => put::unknown(to),
+        }
     }
 }
 
 fn main(rt: HostRuntime) -> io::Result<()> {
-    replay_lines::answer_all(&mut rt.stdin(), &mut rt.stdout(), answer)
+    replay_lines::answer_all(&mut rt.stdin(), &mut rt.stdout(), &Part)
 }

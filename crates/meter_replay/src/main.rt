@@ -9,7 +9,7 @@ use rbitcoin_mempool::fee_flow::FeeFlowMeter;
 use replay_lines::digests::{digest, mix};
 use replay_lines::question::Question;
 use replay_lines::words::Words;
-use replay_lines::{bits_of, put};
+use replay_lines::{Answers, bits_of, put};
 use std::io;
 use std::io::Write;
 
@@ -48,13 +48,19 @@ fn replay(mut words: Words) -> FeeFlowMeter {
     m
 }
 
-fn answer<W: Write>(to: &mut W, question: Question) -> io::Result<()> {
-    match question.name {
-        b"meter" => put_meter(to, replay(question.words)),
-        _ => put::unknown(to),
+// What answers this part's questions.
+#[derive(Clone, Copy)]
+struct Part;
+
+impl<W: Write> Answers<W> for Part {
+    fn answer(&self, to: &mut W, question: Question) -> io::Result<()> {
+        match question.name {
+            b"meter" => put_meter(to, replay(question.words)),
+            _ => put::unknown(to),
+        }
     }
 }
 
 fn main(rt: HostRuntime) -> io::Result<()> {
-    replay_lines::answer_all(&mut rt.stdin(), &mut rt.stdout(), answer)
+    replay_lines::answer_all(&mut rt.stdin(), &mut rt.stdout(), &Part)
 }

@@ -1,5 +1,8 @@
 -- The bits of floats that are not negative are ordered as the floats, and so are the bits of magnitudes of which none is NaN. Assumes nothing.
-use Rattle.std.proofs.Common.{◌≡◌, ℕ, zero, suc, ◌+◌, ◌-◌, ◌*◌, ◌/◌, ◌%◌, ◌^◌, ◌<◌, ◌≤◌, Bool, true, false, not, ◌&&◌, T, eqb, ltb, leb, ℤ, sym, refl, ap, ◌∙◌, subst, ⊎_elim, true≢false, le_of_lt, add_assoc, mul-le-mul_right, div-lt_iff_lt-mul, eq-or-lt_of_le, mul-lt-mul_of_pos_right, mul-pos, pow-suc, le-div_iff_mul-le, zero-add, arith, ltb→lt, pow_pos, pow-add, ltb-false, ltb-true, le-ltb, lt-ltb}
+use Rattle.std.proofs.Common.{◌≡◌, ℕ, zero, suc, ◌+◌, ◌-◌, ◌*◌, ◌/◌, ◌%◌, ◌^◌, ◌<◌, ◌≤◌, Bool, true, false, not, ◌&&◌, T, eqb, ltb, leb, ℤ, sym, refl, ap, ◌∙◌, subst, ⊎_elim, true≢false, le_of_lt, add_assoc, mul-le-mul_right, mod-eq_of_lt, div-lt_iff_lt-mul, eq-or-lt_of_le, mul-lt-mul_of_pos_right, mul-pos, pow-suc, le-div_iff_mul-le, zero-add, arith, ltb→lt, pow_pos, pow-add, ltb-false, ltb-true, le-ltb, lt-ltb}
+use native.Mathlib.Nat.{add-mod_left}
+use Rattle.std.specs.Float.{float_with_sign}
+use Rattle.std.proofs.lemmas.Float.{T_from_true}
 use lib.Ieee.{Float, nan, inf, fin, Format, binary64, is_nan, prec, emax, low, hid, ones, top, size, up, down, lt, to_bits, of_bits, fits}
 use lib.Ieee.Fits.{two, reach, down_pos, kept-lt, and_r}
 use lib.Ieee.Digits.{size-lt, size-le, size_reaches}
@@ -144,12 +147,46 @@ module _ (f : Format) where
           (λ l. l)
           (eq-or-lt_of_le (bits_mono x y u v a b (one_way x y u v e))))
 
--- ---- magnitudes that are numbers are ordered as their bits
+-- ---- the bits without the sign, by the test that `abs_bits` makes
 other_sign : (m : ℕ) (e : ℤ) → T (fits binary64 (fin true m e)) → T (fits binary64 (fin false m e))
 unfolding fits
 other_sign zero e h = h
 other_sign (suc m) e h = h
 
+under : (m : ℕ) (e : ℤ) → T (fits binary64 (fin false m e)) → to_bits binary64 (fin false m e) < 2 ^ 63
+under m e h = omega (arith, below_inf binary64 m e h, bits-inf binary64)
+
+-- the pattern without its sign
+pub magnitude : (x : Float) → T (fits binary64 x) → T (not (is_nan x)) → to_bits binary64 x % 2 ^ 63 ≡ abs_bits x
+unfolding abs_bits is_nan
+magnitude nan f h = absurd h
+magnitude (inf true) f h = unfold to_bits in refl
+magnitude (inf false) f h = unfold to_bits in refl
+magnitude (fin false m e) f h = mod-eq_of_lt (under m e f)
+magnitude (fin true m e) f h =
+    rw (bits_negative binary64 m e) (add-mod_left (2 ^ 63) (to_bits binary64 (fin false m e)) ∙ mod-eq_of_lt (under m e (other_sign m e f)))
+
+same : (x : Float) → float_with_sign false x ≡ abs_of x
+unfolding float_with_sign
+same nan = refl
+same (inf s) = refl
+same (fin s m e) = refl
+
+pub bits_of_abs : (x : Float) → is_nan x ≡ false → to_bits binary64 (float_with_sign false x) ≡ abs_bits x
+unfolding abs_bits
+bits_of_abs x h = rw h (ap (to_bits binary64) (same x))
+
+pub bits_of_nan : (x : Float) → is_nan x ≡ true → abs_bits x ≡ 2 ^ 64 - 1
+unfolding abs_bits
+bits_of_nan x h = rw h
+
+pub bits_of_number : (x : Float) → fits binary64 x ≡ true → is_nan x ≡ false → to_bits binary64 x % 2 ^ 63 ≡ abs_bits x
+bits_of_number x f h = magnitude x (T_from_true _ f) (T_from_true _ (ap not h))
+
+-- for the proof of `abs_bits`
+pub ruleset bits_laws = (bits_of_abs, bits_of_nan, bits_of_number)
+
+-- ---- magnitudes that are numbers are ordered as their bits
 abs-fits : (x : Float) → T (fits binary64 x) → T (fits binary64 (abs_of x))
 abs-fits nan f = f
 abs-fits (inf s) f = unfold fits in tt

@@ -1,4 +1,4 @@
--- `floor_of` in each of the seven cases that `floor` tells apart, and `ceil_of` by `floor_of`. Assumes nothing.
+-- `floor_of` in each of the seven cases that `floor` tells apart, and `ceil_of` by `floor_of`; the rules of the tactics for `floor`, `whole_below` and `to_u64`. Assumes nothing.
 use Rattle.std.proofs.Common.{◌≡◌, ℕ, zero, suc, ◌+◌, ◌*◌, ◌%◌, ◌^◌, ◌<◌, ◌≤◌, Bool, true, false, cond, not, T, eqb, ltb, ℤ, pos, negsuc, sym, refl, ap, ◌∙◌, true≢false, lt_of_le_of_lt, mul-le-mul_right, div-lt_iff_lt-mul, lt_of_mul-lt-mul_right, mul-lt-mul_of_pos_right, pow-suc, div-add-mod', mul-one, div-mul-le_self, arith, lit≤, le→leb, pow_pos, ltb-false, ltb-true, le-ltb, lt-ltb, eq-eqb, eqb-true}
 use native.Mathlib.Nat.{lt-div-mul-add, zero-mod, min-eq_left}
 use borrow.Author.Tests.{eqb-false}
@@ -6,9 +6,11 @@ use lib.Ieee.{Float, nan, inf, fin, binary64, up, down, neg, lt, add, sub, to_un
 use lib.Ieee.Fits.{down_pos, of_int-fits}
 use lib.Ieee.Exact.{HasValue}
 use lib.Ieee.Back.{positive_back, whole_unique}
+use lib.Ieee.Bits.{is_true}
+use Rattle.std.proofs.lemmas.Float.{T_from_true}
 use mir.Val.{bool_byte}
 use Rattle.num.specs.Float.{of_u64, to_u64, cut, is_whole, floor_of, ceil_of}
-use Rattle.num.proofs.Value.{held}
+use Rattle.num.proofs.Value.{held, bits_0, bits_1, bits_52}
 use Rattle.num.proofs.Whole.{whole-value, whole-next}
 use Rattle.num.proofs.WholeSum.{whole_before, Lands, lands}
 
@@ -246,3 +248,19 @@ ceil_floor (inf true) = refl
 ceil_floor (inf false) = refl
 ceil_floor (fin true m e) = neg-cond (is_whole m e) (fin false m e) (of_u64 (cut m e))
 ceil_floor (fin false m e) = neg-cond (is_whole m e) (fin true m e) (neg (of_u64 (cut m e + 1))) ∙ ap (λ (y : Float). cond (is_whole m e) (fin false m e) y) (neg-neg (of_u64 (cut m e + 1)))
+
+-- ---- as rules for the proofs of `whole_below`, `to_u64` and `floor`, which go by the tests that the code makes
+pub cast_in : (x : Float) → lt (fin false 0 (pos 0)) x ≡ true → lt x limit ≡ true → T (in_signed binary64 63 (part_of x))
+cast_in x a b = (part_cast x a b).0
+
+pub cast_is : (x : Float) → lt (fin false 0 (pos 0)) x ≡ true → lt x limit ≡ true → to_signed 63 (part_of x) ≡ pos (to_u64 x)
+cast_is x a b = (part_cast x a b).1
+
+pub cast_small : (x : Float) → lt (fin false 0 (pos 0)) x ≡ true → lt x limit ≡ true → to_u64 x < 2 ^ 52
+cast_small x a b = (landing x a b).1
+
+pub ruleset landing_laws = (landed-above, landed-within, is_true, bits_0, bits_1, bits_52)
+
+pub ruleset cast_laws = (cast_in, cast_is, cast_small, bits_0, bits_52, T_from_true)
+
+pub ruleset floor_laws = (positive, positive_large, negative-above, negative_fraction, negative-whole, negative_large, neither, bits_0, bits_1, bits_52, T_from_true)

@@ -1,11 +1,20 @@
 -- Laws for callers of `wide`: when a value is one word, a sum that fits, and a quotient by a number above 0. Assumes nothing.
-use Rattle.std.proofs.Common.{◌≡◌, ℕ, zero, suc, ◌+◌, ◌/◌, ◌%◌, ◌^◌, ◌<◌, ap, ◌∙◌, lt_of_lt_of_le, not-suc-le-zero, mod-eq_of_lt, arith, lit≤}
+use Rattle.std.proofs.Common.{◌≡◌, ℕ, zero, suc, ◌+◌, ◌/◌, ◌%◌, ◌^◌, ◌<◌, ◌≤◌, ap, ◌∙◌, lt_of_lt_of_le, not-suc-le-zero, mod-eq_of_lt, arith, lit≤}
 use Rattle.num.specs.declared.wide.Wide.{Wide}
 use Rattle.num.specs.Wide.{value, wrapping_sum, divided}
 
 pub one_word : (w : Wide) → value w < 2 ^ 64 → (w.hi ≡ 0) × (w.lo ≡ value w)
 unfolding value
 one_word w h = omega arith
+
+-- the upper word tells whether the value is one word
+pub no_upper_word : (w : Wide) → w.hi ≡ 0 → w.lo ≡ value w
+unfolding value
+no_upper_word w h = omega arith
+
+pub upper_word : (w : Wide) → (w.hi ≡ 0 → ⊥) → 2 ^ 64 ≤ value w
+unfolding value
+upper_word w h = omega arith
 
 pub fitting-sum : (a b : ℕ) → a + b < 2 ^ 128 → wrapping_sum a b ≡ a + b
 unfolding wrapping_sum

@@ -1,5 +1,5 @@
 -- Rust's `u128` as two words of 64 bits, and division. Definitions only.
-use Rattle.std.specs.Prelude.{ℕ, zero, suc, ◌+◌, ◌*◌, ◌/◌, ◌%◌, ◌^◌}
+use Rattle.std.specs.Prelude.{◌≡◌, ℕ, zero, suc, ◌+◌, ◌*◌, ◌/◌, ◌%◌, ◌^◌, ◌<◌}
 use Rattle.num.specs.declared.wide.Wide.{Wide}
 
 -- the number that the two words hold
@@ -14,3 +14,8 @@ wrapping_sum a b = (a + b) % 2 ^ 128
 unfoldable pub divided : ℕ → ℕ → ℕ × ℕ
 divided n zero = (0, 0)
 divided n (suc d) = (n / suc d, n % suc d)
+
+-- q and r are the quotient and the remainder of n by d
+pub record IsDivision (n d q r : ℕ) : Type 0 where
+  pub whole : q * d + r ≡ n
+  pub below : r < d

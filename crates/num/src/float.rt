@@ -17,6 +17,7 @@ pub fn from_u64(n: u64) -> f64
 
 // The whole part of x, for x above 0 and below 2^52. Adding 2^52 rounds x to a whole number at most a half away; where
 // that is above x, one less is the whole part.
+#[tactic(auto, using(crate::proofs::Floors::landing_laws))]
 fn whole_below(x: f64) -> f64
     requires above_zero { T (lt (fin false 0 (pos 0)) x) }
     requires below_whole { T (lt x (fin false 1 (pos 52))) }
@@ -28,6 +29,7 @@ fn whole_below(x: f64) -> f64
 
 // Rust's `x as u64`. Below 2^52 the whole part by a sum is faster than the kit's, which shifts bits; a cast to a signed
 // word is one instruction.
+#[tactic(auto, using(crate::proofs::Floors::cast_laws, std::proofs::lemmas::Int::ints))]
 pub fn to_u64(x: f64) -> u64
     ensures { result ≡ to_u64 x }
 {
@@ -49,6 +51,7 @@ pub fn round_to_u64(x: f64) -> u64
 }
 
 // Rust's `x.is_finite()`.
+#[tactic(auto, using(crate::proofs::Finite::finite_laws))]
 pub fn is_finite(x: f64) -> bool
     ensures { result ≡ is_finite x }
 {
@@ -73,6 +76,7 @@ pub fn clamp(x: f64, lo: f64, hi: f64) -> f64
 }
 
 // Rust's `x.floor()`. The kit's took longer.
+#[tactic(auto, using(crate::proofs::Floors::floor_laws))]
 pub fn floor(x: f64) -> f64
     ensures { result ≡ floor_of x }
 {
@@ -98,6 +102,7 @@ pub fn ceil(x: f64) -> f64
 
 // The bits of `x.abs()`: those of x without the sign. Numbers that are not negative are ordered as their bits; a NaN
 // comes last.
+#[tactic(auto, using(crate::proofs::BitOrder::bits_laws))]
 pub fn abs_bits(x: f64) -> u64
     ensures { result ≡ abs_bits x }
 {

@@ -11,7 +11,8 @@ ghost use Rattle.quote_board.specs.Text.{held, decimal, rate_text, quote_line, q
 ghost use Rattle.quote_board.specs.Text.{quotes, bad_text, text, feequote};
 
 use arrayvec::ArrayVec;
-use quote_lines::board::{BadLine, Board};
+use quote_lines::board::{BadInput, BadLine, Board};
+use quote_lines::few::Few;
 use quote_lines::reader::read;
 use rbitcoin_mempool::answer::{Rate, Refusal};
 use rbitcoin_mempool::fee_est::{
@@ -61,24 +62,48 @@ fn put_quote(out: &mut Text, board: &Board, target: u32)
     ensures upper_bound { array_vec_len out.new ≤ array_vec_len out.old + 42 }
 {
     let rates = Marked {
-        numbers: &board.rates,
-        marks: &board.marks,
+        numbers: board.rates.as_slice(),
+        marks: board.marks.as_slice(),
     };
-    let rate = fee_at_target_sat_kvb(&board.depths, rates, target);
+    let rate = fee_at_target_sat_kvb(board.depths.as_slice(), rates, target);
     put_decimal(out, u64::from(target));
     put(out, b" ");
     put_rate(out, rate);
     put(out, b"\n");
 }
 
-// The board after the hold pass. A board's numbers and marks are of one length, and each mark is 0 or 1.
-fn held(mut board: Board) -> Board
+// A list that the hold pass can write into.
+fn listed<T: Copy + Default>(items: &[T]) -> ArrayVec<T, 64>
+    requires { length items.now ≤ 64 }
+    ensures { result.items ≡ items.now }
+{
+    let mut list = ArrayVec::new();
+    let _fits = list.try_extend_from_slice(items);
+    list
+}
+
+// The board after the hold pass, which writes into these copies of its numbers and marks. They are of one length, and
+// each mark is 0 or 1.
+fn held_by(mut board: Board, numbers: &mut [u64], marks: &mut [u8]) -> Board
+    requires numbers { numbers.old ≡ board.rates }
+    requires marks { marks.old ≡ board.marks }
     ensures { result ≡ held board }
 {
-    let numbers = board.rates.as_mut_slice();
-    let marks = board.marks.as_mut_slice();
-    let _ = hold_defined_then_monotone(&mut MarkedMut { numbers, marks });
+    let _ = hold_defined_then_monotone(&mut MarkedMut {
+        numbers: &mut *numbers,
+        marks: &mut *marks,
+    });
+    board.rates = Few::from_slice(numbers);
+    board.marks = Few::from_slice(marks);
     board
+}
+
+fn held(board: Board) -> Board
+    ensures { result ≡ held board }
+{
+    let mut numbers = listed(board.rates.as_slice());
+    let mut marks = listed(board.marks.as_slice());
+    held_by(board, numbers.as_mut_slice(), marks.as_mut_slice())
 }
 
 // The lines of the targets, of which a board has at most 64.
@@ -115,12 +140,12 @@ fn bad_text(bad: BadLine) -> Text
 
 // What a board answers, or the first bad line.
 #[tactic(auto, unfolding(crate::specs::Text::text))]
-pub fn text(read: Result<Board, BadLine>) -> Text
+pub fn text(read: Result<Board, BadInput>) -> Text
     ensures { result.items ≡ text (seen read) }
 {
     match read {
         Ok(board) => quotes(board),
-        Err(bad) => bad_text(bad),
+        Err(bad) => bad_text(bad.line),
     }
 }
 

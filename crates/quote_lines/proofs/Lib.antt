@@ -3,4 +3,5 @@ pub mod Fields
 pub mod Inputs
 pub mod Keeps
 pub mod Lines
+pub mod Padded
 pub mod Sound

@@ -1,5 +1,6 @@
 -- The definitions that the contracts cite.
 pub mod Bytes
+pub mod Few
 pub mod Format
 pub mod Machine
 pub mod Store

@@ -12,6 +12,7 @@ use Rattle.quote_lines.specs.declared.field.Field.TheVariants.{Empty, LetterD, L
 use Rattle.quote_lines.specs.declared.line.Line.{Line}
 use Rattle.quote_lines.specs.declared.line.Line.TheVariants.{Nothing, AfterD, AfterDepth, AfterT, Entry, Target, Bad}
 use Rattle.quote_lines.specs.declared.board.BadLine.{BadLine}
+use Rattle.quote_lines.specs.declared.board.BadInput.{BadInput}
 use Rattle.quote_lines.specs.declared.reader.Reader.{Reader}
 
 -- what the fields of a whole line say
@@ -93,17 +94,18 @@ at_line_start (Entry d r) f = false
 at_line_start (Target t) f = false
 at_line_start Bad f = false
 
-abbrev pub kept_of : Board → Option BadLine → Result Board BadLine
+-- what the lines read say: the board, or the first bad line and the board before it
+abbrev pub kept_of : Board → Option BadLine → Result Board BadInput
 kept_of b None = Ok b
-kept_of b (Some n) = Err n
+kept_of b (Some n) = Err (record { line = n; before = b })
 
 -- the end of the input: a line that has begun ends without its newline
-unfoldable pub finished : Reader → Result Board BadLine
+unfoldable pub finished : Reader → Result Board BadInput
 finished r =
     let s = cond (at_line_start r.line r.field) r (line_ended r) in
     kept_of s.board s.bad
 
 -- what the board or the bad line says
-abbrev pub seen : Result Board BadLine → Input
+abbrev pub seen : Result Board BadInput → Input
 seen (Ok b) = board b
-seen (Err n) = bad_line n.0
+seen (Err e) = bad_line e.line.0

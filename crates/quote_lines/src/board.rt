@@ -3,8 +3,8 @@ ghost use Rattle.std.specs.Prelude.{◌≡◌};
 ghost use Rattle.std.specs.Result.{result_err};
 ghost use Rattle.quote_lines.specs.Format.{accept, last, target};
 
+use crate::few::Few;
 use crate::line::Line;
-use arrayvec::ArrayVec;
 use std::marker::Model;
 
 // How many entries there may be, and how many targets.
@@ -16,31 +16,43 @@ pub struct BadLine(pub u64);
 
 // The entries in order, and the targets. An entry's depth, rate and mark stand in lists of their own, since the
 // lookup and the hold pass take them so, as the C interface does.
-#[derive(Drop)]
+#[derive(Clone, Copy)]
 pub struct Board {
-    pub depths: ArrayVec<u32, MOST>,
-    pub rates: ArrayVec<u64, MOST>,
-    pub marks: ArrayVec<u8, MOST>,
-    pub targets: ArrayVec<u32, MOST>,
+    pub depths: Few<u32, MOST>,
+    pub rates: Few<u64, MOST>,
+    pub marks: Few<u8, MOST>,
+    pub targets: Few<u32, MOST>,
+}
+
+// An input with a bad line: the number of the first one, and the board that the lines before it made.
+#[derive(Clone, Copy)]
+pub struct BadInput {
+    pub line: BadLine,
+    pub before: Board,
 }
 
 // Clauses see the four lists.
 impl Model for Board {
-    ghost use Rattle.std.specs.Prelude.{◌≡◌};
-    ghost use Rattle.arrayvec.specs.ArrayVec.{array_vec_len};
+    ghost use Rattle.std.specs.Prelude.{◌≡◌, length};
     ghost use Rattle.quote_lines.specs.Format.{Board as Lists};
 
     ghost Value = { Lists };
 
     ghost view = { λ b. record {
-      depths = b.depths.items;
-      rates = b.rates.items;
-      marks = b.marks.items;
-      targets = b.targets.items;
+      depths = b.depths;
+      rates = b.rates;
+      marks = b.marks;
+      targets = b.targets;
     } };
 
-    ghost invariant = { λ b. (array_vec_len b.rates ≡ array_vec_len b.depths)
-        × (array_vec_len b.marks ≡ array_vec_len b.depths) };
+    ghost invariant = { λ b. (length b.rates ≡ length b.depths) × (length b.marks ≡ length b.depths) };
+
+    ghost inverse = { λ b. record {
+      depths = b.depths;
+      rates = b.rates;
+      marks = b.marks;
+      targets = b.targets;
+    } };
 }
 
 impl Board {
@@ -50,10 +62,10 @@ impl Board {
         ensures { result ≡ empty_board }
     {
         Board {
-            depths: ArrayVec::new(),
-            rates: ArrayVec::new(),
-            marks: ArrayVec::new(),
-            targets: ArrayVec::new(),
+            depths: Few::new(),
+            rates: Few::new(),
+            marks: Few::new(),
+            targets: Few::new(),
         }
     }
 
@@ -67,7 +79,7 @@ impl Board {
     fn last_depth(&self) -> u32
         ensures { result ≡ last self.now.depths }
     {
-        self.depths.last().copied().unwrap_or(0)
+        self.depths.as_slice().last().copied().unwrap_or(0)
     }
 
     fn fits(&self, depth: u32) -> bool
@@ -95,10 +107,11 @@ impl Board {
         ensures board { self.new ≡ board_after self.old (accept self.old (target t)) }
         ensures bad { result_err result ≡ bad_of self.old (accept self.old (target t)) }
     {
-        match self.targets.try_push(t) {
-            Ok(()) => Ok(()),
-            Err(_) => Err(self.next_line()),
+        if self.targets.is_full() {
+            return Err(self.next_line());
         }
+        self.targets.push(t);
+        Ok(())
     }
 
     // A whole line more. A bad line changes nothing.

@@ -1,21 +1,21 @@
-// What the lines of an input say: a board, or the first bad line.
+// What the lines of an input say: a board, or the first bad line with the board before it.
 ghost use Rattle.std.specs.Prelude.{◌≡◌};
 ghost use Rattle.quote_lines.specs.Format.{parse};
 ghost use Rattle.quote_lines.specs.Store.{at_line_start, new_reader, line_ended, byte_read, fed, finished, seen};
 
-use crate::board::{BadLine, Board};
+use crate::board::{BadInput, BadLine, Board};
 use crate::field::Field;
 use crate::line::Line;
 
 // Between two bytes: what the line says so far, what its last field says so far, and what is kept of the lines
 // before. After a bad line nothing more is kept: its number stands beside the board and in no `Result` with it, since
 // the definition of a byte's step is over both.
-#[derive(Drop)]
+#[derive(Clone, Copy)]
 pub struct Reader {
-    line: Line,
-    field: Field,
-    board: Board,
-    bad: Option<BadLine>,
+    pub line: Line,
+    pub field: Field,
+    pub board: Board,
+    pub bad: Option<BadLine>,
 }
 
 impl Reader {
@@ -78,7 +78,7 @@ impl Reader {
 
     // The end of the input. A line that has begun may lack its newline.
     #[tactic(auto, unfolding(crate::specs::Store::finished))]
-    pub fn finish(mut self) -> Result<Board, BadLine>
+    pub fn finish(mut self) -> Result<Board, BadInput>
         ensures { result ≡ finished self }
     {
         if !self.is_at_line_start() {
@@ -86,14 +86,17 @@ impl Reader {
         }
         match self.bad {
             None => Ok(self.board),
-            Some(bad) => Err(bad),
+            Some(line) => Err(BadInput {
+                line,
+                before: self.board,
+            }),
         }
     }
 }
 
 // A whole input.
 #[tactic(auto, using(crate::proofs::Inputs::reads))]
-pub fn read(input: &[u8]) -> Result<Board, BadLine>
+pub fn read(input: &[u8]) -> Result<Board, BadInput>
     ensures kept { result ≡ finished (fed new_reader input.now) }
     ensures parsed { seen result ≡ parse input.now }
 {

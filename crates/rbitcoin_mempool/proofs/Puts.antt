@@ -10,6 +10,10 @@ use lib.Ieee.{Float}
 use Rattle.rbitcoin_mempool.proofs.Medians.{lookback-inside}
 use Rattle.rbitcoin_mempool.proofs.Parts.{length-held}
 
+pub lookback-least : (target : ℕ) → (3 ≤ analog_lookback target) × (analog_lookback target ≤ 144)
+unfolding analog_lookback
+lookback-least target = omega arith
+
 pub ahead-least : (target : ℕ) → 1 ≤ ahead_of target
 unfolding ahead_of
 ahead-least target = omega arith

@@ -1,9 +1,13 @@
 -- Lists of rates as numbers with marks, and back. Assumes nothing.
 use Rattle.std.proofs.Common.{◌≡◌, ℕ, zero, suc, ◌≤◌, true, leb, List, [], ◌∷◌, map, length, get_or, sym, refl, ap, lit≤, le-leb}
 use mathlib.Core.Option.{Option, none, some}
+use mir.Val.{bool_byte}
+use Rattle.std.specs.Prelude.{Some, None}
+use Rattle.std.specs.Option.{is_some, unwrap_or}
+use Rattle.std.specs.declared.option.Option as rust
 use Rattle.slices.proofs.Every.{every_true}
 use Rattle.slices.proofs.Lists.{tabulate-is}
-use Rattle.rbitcoin_mempool.specs.Rates.{marked, rate_at, rates_of, marks_valid, number_of, mark_of, numbers_of, marks_of}
+use Rattle.rbitcoin_mempool.specs.Rates.{given, marked, rate_at, rates_of, marks_valid, number_of, mark_of, numbers_of, marks_of}
 
 pub map-length : {A B : Type 0} (f : A → B) (xs : List A) → length (map f xs) ≡ length xs
 map-length f [] = refl
@@ -14,6 +18,15 @@ numbers-length os = map-length number_of os
 
 pub marks-length : (os : List (Option ℕ)) → length (marks_of os) ≡ length os
 marks-length os = map-length mark_of os
+
+-- one rate as the code writes it: its number or 0, and whether it is there
+pub number_written : (r : rust.Option ℕ) → unwrap_or r 0 ≡ number_of (given r)
+number_written (Some x) = refl
+number_written None = refl
+
+pub mark_written : (r : rust.Option ℕ) → bool_byte (is_some r) ≡ mark_of (given r)
+mark_written (Some x) = refl
+mark_written None = refl
 
 -- one rate, written and read
 there-again : (o : Option ℕ) → marked (number_of o) (mark_of o) ≡ o

@@ -24,7 +24,7 @@ pub use edges::{
     fine_candidate_rates, first_bucket_above, flow_bucket_edges,
 };
 pub use hold::{enforce_monotone_desc, hold_defined_then_monotone};
-pub use marked::{Marked, MarkedMut};
+pub use marked::{Marked, MarkedMut, rate_of};
 pub use percentile::percentile_sat;
 pub use publish::{DepthLists, published_depth_rates};
 pub use target::{fee_at_target_sat_kvb, lerp_sat_kvb};

@@ -189,8 +189,9 @@ impl FeeFlowMeter {
     pub fn fullness(&mut self, now: u64) -> f64
         ensures { (self.new ≡ decay_to self.old now) × (result ≡ fullness self.old now) }
     {
-        *self = self.decay_to(now);
-        self.full()
+        let next = (*self).decay_to(now);
+        *self = next;
+        (*self).full()
     }
 
     // The rates (WU/s) of all buckets at a time that the meter is decayed to.

@@ -16,7 +16,8 @@ use Rattle.rbitcoin_net.specs.declared.fee_history.HistoricalFeeBlock.{Historica
 use Rattle.rbitcoin_net.specs.declared.fee_history.FeeHistory.{FeeHistory}
 use Rattle.rbitcoin_net.specs.History.{hurdle_of}
 use Rattle.rbitcoin_net.specs.Lent.{Rows, Reach, Hashes, Lent, lent, windows_of, lent_refusal}
-use Rattle.slices.specs.Search.{bisect}
+use Rattle.slices.specs.Search.{bisect, lower_bound}
+use Rattle.slices.proofs.Bisect.{lower_bound_is}
 use Rattle.rbitcoin_net.specs.Search.{place_of}
 use Rattle.rbitcoin_net.specs.Hashes.{hash_list, Room, hash_place}
 use Rattle.rbitcoin_net.specs.Cuts.{with_hashes, unkept, cut_at, drop_from}
@@ -41,6 +42,10 @@ rows_ready s m z =
     let v = serves s m z in
     let w = v.rows-within in
     (omega (arith, v.windows.small), omega (arith, v.rows-reach.heights))
+
+-- the search of those rows
+pub sought : (h : ℕ) (s : FeeHistory) (m : Lent) (p : ℕ) → lent_refusal s m ≡ 0 → p ≡ lower_bound m.rows.heights s.start (s.start + s.count) h → p ≡ bisect (s.start + s.count - s.start) m.rows.heights h s.start (s.start + s.count)
+sought h s m p z e = e ∙ lower_bound_is m.rows.heights s.start (s.start + s.count) h (rows_ready s m z).1
 
 pub insert-fits : (s : FeeHistory) (m : Lent) (p : ℕ) → lent_refusal s m ≡ 0 → p ≤ s.start + s.count → (p - s.start ≡ s.analog.capacity → ⊥) → p < s.start + s.analog.capacity
 insert-fits s m p z l n =
@@ -89,6 +94,9 @@ module _ (h p : ℕ) (s : FeeHistory) (m : Lent) (x : Placed s m h p) where
 
   pub hashes_ready : (0 ≤ s.hashes) × (s.hashes ≤ length m.hashes.heights)
   hashes_ready = let v = served in (omega arith, omega (arith, v.hashes-few, v.heights-reach))
+
+  pub hash_sought : (q : ℕ) → q ≡ lower_bound m.hashes.heights 0 s.hashes h → q ≡ bisect (s.hashes - 0) m.hashes.heights h 0 s.hashes
+  hash_sought q e = e ∙ lower_bound_is m.hashes.heights 0 s.hashes h hashes_ready.1
 
   abbrev left : FeeHistory
   left = drop_from h m.rows m.hashes s

@@ -10,6 +10,7 @@ use lib.Ieee.{Float}
 use lib.ListN.{length, get_or, take, length-append}
 use lib.Seq.{length-take-le, take-append-add}
 use Rattle.slices.specs.Lists.{tabulate}
+use Rattle.rbitcoin_mempool.specs.declared.fee_analog.history.AnalogHistory.{AnalogHistory}
 use Rattle.rbitcoin_mempool.specs.Pairs.{pop_back}
 use Rattle.rbitcoin_mempool.specs.Outcome.{Verdict, done, refused, verdict_of}
 use Rattle.rbitcoin_mempool.specs.Windows.{held_in, pop_back_of, or_else}
@@ -20,11 +21,11 @@ use Rattle.rbitcoin_net.specs.declared.fee_history.HistoricalFeeBlock.{Historica
 use Rattle.rbitcoin_net.specs.declared.fee_history.FeeHistory.{FeeHistory}
 use Rattle.rbitcoin_net.specs.Map.{Entry, is_some}
 use Rattle.rbitcoin_net.specs.History.{History, truncate_above, hurdle_of, forget, forget_all, next, cons_maybe, hurdles_of}
-use Rattle.rbitcoin_net.specs.Lent.{Rows, Hashes, Lent, lent, row_at, held_rows, hash_at, hashes_in, windows_of, view, state_refusal, rows_refusal, Sound}
+use Rattle.rbitcoin_net.specs.Lent.{Rows, rows, Hashes, hashes, Lent, lent, row_at, held_rows, hash_at, hashes_in, windows_of, view, state_refusal, rows_refusal, Sound}
 use Rattle.slices.specs.Search.{bisect}
 use Rattle.rbitcoin_net.specs.Search.{place_of}
 use Rattle.rbitcoin_net.specs.Hashes.{hash_list, hash_place}
-use Rattle.rbitcoin_net.specs.Cuts.{with_hashes, unkept, forget_row, forget_rows, cut_at, drop_from, truncate_in, truncate_refusal, truncate_refusal_of, Truncates}
+use Rattle.rbitcoin_net.specs.Cuts.{with_rows, with_hashes, unkept, forget_row, forget_rows, cut_at, drop_from, truncate_in, truncate_refusal, truncate_refusal_of, Truncates}
 use Rattle.rbitcoin_net.proofs.Tables.{Parts, table-split, ascends-at, ascends_of}
 use Rattle.rbitcoin_net.proofs.Search.{place_parts, place_is}
 use Rattle.rbitcoin_net.proofs.Hashes.{hash-place-is}
@@ -147,6 +148,20 @@ pub cut-means : (m : Rows) (z : Hashes) (us : List ℕ) (bs : List Float) (ds : 
 cut-means m z us bs ds h s x = cut-view m z us bs ds (next h) s (good m z us bs ds (next h) s x) x.ascends x.hashes_ascend ∙ sym (cut-is h (view s (lent m z us bs ds)))
 
 -- ---- `truncate_above`
+
+-- what a cut leaves depends on heights, marks and sizes, and on no byte of a hash
+rows_alike : (pop : AnalogHistory → AnalogHistory) (hs gs ms rs qs zs : List ℕ) (n i : ℕ) (s : FeeHistory) → forget_rows pop (rows hs ms rs zs) i n s ≡ forget_rows pop (rows gs ms qs zs) i n s
+unfolding forget_rows
+rows_alike pop hs gs ms rs qs zs zero i s = refl
+rows_alike pop hs gs ms rs qs zs (suc n) i s = rows_alike pop hs gs ms rs qs zs n (suc i) (forget_row pop (get_or ms i 0) (get_or zs i 0) s)
+
+pub cut_alike : (hs gs ms rs qs zs : List ℕ) (p : ℕ) (s : FeeHistory) → cut_at (rows hs ms rs zs) p s ≡ cut_at (rows gs ms qs zs) p s
+unfolding cut_at
+cut_alike hs gs ms rs qs zs p s = ap (with_rows s.start (p - s.start)) (rows_alike pop_back_of hs gs ms rs qs zs (s.start + s.count - p) p s)
+
+pub truncate_alike : (h : ℕ) (hs ms rs zs ks bs : List ℕ) (s : FeeHistory) → truncate_in h (rows hs ms [] zs) (hashes ks []) s ≡ truncate_in h (rows hs ms rs zs) (hashes ks bs) s
+unfolding drop_from hash_place
+truncate_alike h hs ms rs zs ks bs s = ap (λ (t : FeeHistory). with_hashes (bisect s.hashes ks (next h) 0 s.hashes) (unkept t)) (cut_alike hs hs ms [] rs zs (place_of hs s (next h)) s)
 
 -- the code's cut
 pub truncated : (h k : ℕ) (m : Rows) (z : Hashes) (s c t : FeeHistory) (p q : ℕ) → k ≡ next h

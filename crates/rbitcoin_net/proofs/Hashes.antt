@@ -8,7 +8,8 @@ use lib.ListN.{length, take, drop, length-drop}
 use lib.Seq.{drop-drop, drop-length, length-take-le}
 use borrow.Author.Tests.{le-leb}
 use Rattle.slices.specs.Lists.{copy_front}
-use Rattle.slices.specs.Search.{bisect}
+use Rattle.slices.specs.Search.{bisect, lower_bound}
+use Rattle.slices.proofs.Bisect.{lower_bound_is}
 use Rattle.rbitcoin_net.specs.Search.{is_at}
 use Rattle.rbitcoin_net.specs.Hashes.{HashList, hash_list, moved_hashes, hash_place, remove_at, remove_hash}
 
@@ -34,6 +35,10 @@ module _ (h : ℕ) (k : HashList) where
   pub hash-place-is : (q : ℕ) → q ≡ bisect (k.count - 0) k.lists.heights h 0 k.count → q ≡ hash_place h k
   unfolding hash_place
   hash-place-is q e = let d : k.count - 0 ≡ k.count = omega arith in e ∙ ap (λ n. bisect n k.lists.heights h 0 k.count) d
+
+  -- of hashes that reach their end
+  pub hash_found : (q : ℕ) → q ≡ lower_bound k.lists.heights 0 k.count h → k.count ≤ length k.lists.heights → q ≡ hash_place h k
+  hash_found q e l = hash-place-is q (e ∙ lower_bound_is k.lists.heights 0 k.count h l)
 
   pub remove_is : remove_hash h k ≡ cond (is_at k.lists.heights k.count h (hash_place h k))
       (hash_list (k.count - 1) (moved_hashes (hash_place h k) (hash_place h k + 1) (k.count - hash_place h k - 1) k.lists)) k

@@ -6,15 +6,15 @@ use mathlib.Core.Option.{Option, none, some}
 use mathlib.Core.Path.{◌≡◌, refl, sym, ◌∙◌, ap}
 use native.Mathlib.Omega.{arith}
 use lib.Dec.{ltb, eqb}
-use lib.ListN.{get_or}
+use lib.ListN.{length, get_or}
 use borrow.Author.Tests.{lt-ltb, ltb-true, ltb-false, eq-eqb, eqb-true}
 use Rattle.slices.specs.Lists.{tabulate}
-use Rattle.slices.proofs.Bisect.{mid}
+use Rattle.slices.proofs.Bisect.{mid, lower_bound_is}
 use Rattle.rbitcoin_net.specs.declared.fee_history.HistoricalFeeBlock.{HistoricalFeeBlock}
 use Rattle.rbitcoin_net.specs.declared.fee_history.FeeHistory.{FeeHistory}
 use Rattle.rbitcoin_net.specs.Map.{Ascends, get, is_some, contains_key}
 use Rattle.rbitcoin_net.specs.Lent.{Rows, row_at, block_at, held_rows, rows_refusal_of}
-use Rattle.slices.specs.Search.{bisect}
+use Rattle.slices.specs.Search.{bisect, lower_bound}
 use Rattle.rbitcoin_net.specs.Search.{place_of, is_at, is_held, Looked, block, nothing, refused, looked_of, looked_after, look_up_in, get_in, Gets}
 use Rattle.rbitcoin_net.proofs.Tables.{either, not-both, Parts, Rising, ascends-at, ascends_rising, get_none, get-found}
 
@@ -70,6 +70,10 @@ module _ (hs : List ℕ) (h : ℕ) where
 pub place_is : (hs : List ℕ) (s : FeeHistory) (h p : ℕ) → p ≡ bisect (s.start + s.count - s.start) hs h s.start (s.start + s.count) → p ≡ place_of hs s h
 unfolding place_of
 place_is hs s h p e = let d : s.start + s.count - s.start ≡ s.count = omega arith in e ∙ ap (λ k. bisect k hs h s.start (s.start + s.count)) d
+
+-- of rows that reach their end
+pub place_found : (hs : List ℕ) (s : FeeHistory) (h p : ℕ) → p ≡ lower_bound hs s.start (s.start + s.count) h → s.start + s.count ≤ length hs → p ≡ place_of hs s h
+place_found hs s h p e l = place_is hs s h p (e ∙ lower_bound_is hs s.start (s.start + s.count) h l)
 
 module _ (m : Rows) (s : FeeHistory) (h : ℕ) (asc : Ascends (held_rows m s)) where
   -- of ascending rows the place parts the heights

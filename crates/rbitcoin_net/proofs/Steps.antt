@@ -2,11 +2,13 @@
 use lib.Seq.{length-take-le}
 use Rattle.std.proofs.lemmas.Bool.Decides.{nat_tests}
 use Rattle.rbitcoin_mempool.proofs.Refusals as mempool
+use Rattle.slices.proofs.Bisect.{lower_bound_is}
+use Rattle.rbitcoin_net.proofs.CutSound.{truncated}
 use Rattle.rbitcoin_net.proofs.Refusals.{windows_taken, rows-lent, truncate-fits, entries_fit, recent-fits, rates-fit, within}
 use Rattle.rbitcoin_net.proofs.Rating.{slots-done}
 use Rattle.rbitcoin_net.proofs.Readers.{rate_is}
-use Rattle.rbitcoin_net.proofs.Search.{place_is, is-at-true, look-up-held, look-up-nothing}
-use Rattle.rbitcoin_net.proofs.Hashes.{hash-place-is, remove_is}
+use Rattle.rbitcoin_net.proofs.Search.{place_found, is-at-true, look-up-held, look-up-nothing}
+use Rattle.rbitcoin_net.proofs.Hashes.{hash_found, remove_is}
 
 -- a refusal by its tests, and windows that are not refused
 pub ruleset refusal_steps = mempool.refusal_steps
@@ -20,10 +22,13 @@ pub ruleset ranking = nat_tests
 pub ruleset reading = rate_is
 
 -- the place of a height, and what stands there
-pub ruleset looking = (place_is, is-at-true, look-up-held, look-up-nothing)
+pub ruleset looking = (place_found, is-at-true, look-up-held, look-up-nothing)
+
+-- rows and hashes cut at their places
+pub ruleset cutting = (truncated, lower_bound_is)
 
 -- a hash that is there goes
-pub ruleset removing = (nat_tests, is-at-true, hash-place-is, remove_is)
+pub ruleset removing = (nat_tests, is-at-true, hash_found, remove_is)
 
 -- a hash is put at its place
 pub ruleset noting = (nat_tests, is-at-true)

@@ -4,7 +4,7 @@ use native.Mathlib.Numerals.{unary_clauses}
 use lib.ListN.{length-map, get_or-map}
 use lib.Seq.{take-nil}
 use Rattle.std.proofs.lemmas.List.{map_more, take-map, take_all}
-use Rattle.replay_lines.specs.Hex.{hex_of}
+use Rattle.replay_lines.specs.Hex.{hex_digit, hex_of}
 use Rattle.replay_lines.specs.Lines.{words_of}
 use Rattle.replay_lines.specs.Digest.{mixed, mixed_all}
 use Rattle.replay_lines.specs.Lists.{over}
@@ -61,7 +61,11 @@ words-one s at (suc n) (suc i) h =
     let e : at + 17 + 1 + 17 * i ≡ at + 1 + 17 * suc i = omega arith in
     words-one s (at + 17) n i (le_of_suc-le-suc h) ∙ ap (λ (k : ℕ). hex_of s k 16) e
 
--- a line's words put over a list: one more, and all
+no_digits : hex_of [] 0 16 ≡ 0
+unfolding hex_of hex_digit
+no_digits = refl
+
+-- a line's words put over a list: one more, one that starts past the line's end, and all
 module _ (s : List ℕ) (at : ℕ) (out : List ℕ) (i : ℕ) where
   pub put_word : (w : ℕ) → w ≡ hex_of (drop (at + 1 + 17 * i) s) 0 16 → i < 512 → i < length out
       → set (over (take i (words_of s at 512)) out) i w ≡ over (take (i + 1) (words_of s at 512)) out
@@ -69,9 +73,13 @@ module _ (s : List ℕ) (at : ℕ) (out : List ℕ) (i : ℕ) where
       rw (add-one, v, hex-drop s (at + 1 + 17 * i) 16, ← (words-one s at 512 i h))
       (over-one 0 (words_of s at 512) out i (omega (arith, words-length s at 512)) k)
 
+  pub put_none : length s ≤ at + 1 + 17 * i → i < 512 → i < length out
+      → set (over (take i (words_of s at 512)) out) i 0 ≡ over (take (i + 1) (words_of s at 512)) out
+  put_none e h k = put_word 0 (rw (past s (at + 1 + 17 * i) e) (sym no_digits)) h k
+
   pub put_words : i ≡ min (length out) 512 → over (take i (words_of s at 512)) out ≡ over (words_of s at 512) out
   put_words n =
       let all : i ≡ min (length (words_of s at 512)) (length out) = omega (arith, words-length s at 512) in
       rw all (over_all (words_of s at 512) out)
 
-pub ruleset words_put = (up_to_fits, put_word, put_words, over_length)
+pub ruleset words_put = (up_to_fits, put_word, put_none, put_words, over_length)

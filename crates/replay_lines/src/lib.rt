@@ -13,6 +13,7 @@ ghost use Rattle.std.specs.Float.{binary64};
 ghost use Rattle.replay_lines.specs.Hex.{one_nan};
 ghost use Rattle.replay_lines.specs.Filling.{Filled};
 ghost use Rattle.replay_lines.specs.Replay.{AnswersAll};
+ghost use Rattle.replay_lines.specs.declared.question.Question.{Question};
 
 use crate::question::{Lines, Question, read_words};
 use std::io;
@@ -35,23 +36,31 @@ pub fn read_full<R: Read>(from: &mut R, buf: &mut [u8]) -> io::Result<usize>
     Ok(n)
 }
 
+// What answers the questions of an input. A trait, and no closure: a closure may ask something of each call, which
+// `answer_all` would have to ask of its caller, and a method whose trait asks nothing takes every question.
+pub trait Answers<W> {
+    ghost gives: { Self → W → Question → W → Type 0 } = { λ _ _ _ _. Unit {0} };
+
+    fn answer(&self, to: &mut W, question: Question) -> io::Result<()>
+        ensures { OnOk result (gives self.now to.old question.entry to.new) };
+}
+
 // Answers each question of an input, of which the first 65,536 bytes are read. They fit an array, so that the programs
 // take no memory, as the estimator takes none.
-pub fn answer_all<R: Read, W: Write, F: Fn(&mut W, Question) -> io::Result<()>>(
+pub fn answer_all<R: Read, W: Write, A: Answers<W>>(
     from: &mut R,
     to: &mut W,
-    answer: F,
+    answers: &A,
 ) -> io::Result<()>
-    requires { F.IsAlwaysCallable answer }
     ensures { OnOk result
-        (AnswersAll F.Fn answer (R.remaining from.old) (R.remaining from.new) to.old to.new) }
+        (AnswersAll A.gives answers.now (R.remaining from.old) (R.remaining from.new) to.old to.new) }
 {
     let mut lines = [0u8; 65536];
     let n = read_full(from, &mut lines)?;
+    let mut words = [0u64; 512];
     for line in Lines::new(&lines[..n]) {
-        let mut words = [0u64; 512];
         read_words(line, &mut words);
-        answer(to, Question::new(line, &words))?;
+        answers.answer(to, Question::new(line, &words))?;
     }
     Ok(())
 }

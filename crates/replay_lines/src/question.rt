@@ -80,14 +80,21 @@ fn word(digits: &[u8]) -> u64
     x
 }
 
-// Puts a line's first 512 words over a list, digits that are not there as 0. What the list has more stays.
+// Puts a line's first 512 words over a list, digits that are not there as 0. What the list has more stays. Words that
+// would start past the line's end are put as 0 with no digit read, since most lines have few words.
 #[tactic(auto, using(crate::proofs::Lists::words_put), unfolding(crate::specs::Lists::over))]
 pub fn read_words(line: &[u8], out: &mut [u64])
     ensures { out.new ≡ over (words_of line.now (length (up_to 32 line.now)) 512) out.old }
 {
     let first = find(line, b' ') + 1;
-    for i in 0..out.len().min(512) {
+    let most = out.len().min(512);
+    let started = (line.len().saturating_sub(first) + 16) / 17;
+    let there = started.min(most);
+    for i in 0..there {
         out[i] = word(rest(line, first + 17 * i));
+    }
+    for j in there..most {
+        out[j] = 0;
     }
 }
 

@@ -1,7 +1,7 @@
 -- The binary search: its turns, and what it finds. Assumes nothing.
-use Rattle.std.proofs.Common.{◌≡◌, ℕ, zero, suc, ◌+◌, ◌-◌, ◌/◌, ◌<◌, ◌≤◌, Bool, true, false, cond, List, length, ltb, leb, get_or, refl, arith, ltb-true, ltb-false, le-leb}
+use Rattle.std.proofs.Common.{◌≡◌, ℕ, zero, suc, ◌+◌, ◌-◌, ◌/◌, ◌<◌, ◌≤◌, min, Bool, true, false, cond, List, length, ltb, leb, get_or, refl, subst, arith, ltb-true, ltb-false, le-leb}
 use borrow.Author.Tests.{lt-ltb, le-ltb, lt-leb}
-use Rattle.slices.specs.Search.{seek, bisect}
+use Rattle.slices.specs.Search.{seek, bisect, lower_bound}
 use Rattle.slices.proofs.Seeking.{Cut, cut-start, cut_up, cut_down, cut_end}
 
 abbrev pub mid : ℕ → ℕ → ℕ
@@ -10,6 +10,15 @@ mid a b = a + (b - a) / 2
 -- k turns suffice from a to b, and what they find is p
 abbrev pub Turns : List ℕ → ℕ → ℕ → ℕ → ℕ → Type 0
 Turns xs v a b p = (k : ℕ) × (b - a ≤ k) × (bisect k xs v a b ≡ p)
+
+-- so many as there are places, at the start
+pub started : (xs : List ℕ) (v a b : ℕ) → Turns xs v a (a + (b - a)) (bisect (b - a) xs v a b)
+unfolding bisect
+started xs v a b = go (b - a) refl
+  where
+    go : (n : ℕ) → b - a ≡ n → Turns xs v a (a + n) (bisect n xs v a b)
+    go zero e = (0, omega arith, refl)
+    go (suc n) e = let d : b ≡ a + suc n = omega arith in subst (λ (z : ℕ). Turns xs v a z (bisect (suc n) xs v a b)) d (suc n, omega arith, refl)
 
 module _ (xs : List ℕ) (v a b p : ℕ) where
   pub go_right : a < b → Turns xs v a b p → get_or xs (mid a b) 0 < v → Turns xs v (mid a b + 1) b p
@@ -56,3 +65,8 @@ module _ (xs : List ℕ) (v : ℕ) where
 
     pub bisect_seeks : bisect (length xs - 0) xs v 0 (length xs) ≡ seek reached 0 (length xs)
     bisect_seeks = finds (length xs - 0) 0 (length xs) (cut-start reached (length xs)) (omega arith)
+
+-- up to a place in the list it is the search to there
+pub lower_bound_is : (xs : List ℕ) (lo hi v : ℕ) → hi ≤ length xs → lower_bound xs lo hi v ≡ bisect (hi - lo) xs v lo hi
+unfolding lower_bound
+lower_bound_is xs lo hi v h = let e : min hi (length xs) ≡ hi = omega arith in rw e

@@ -1,6 +1,6 @@
 // Moving a run of elements within a lent list, and from one list to the front of another, where the runs fit.
-ghost use Rattle.std.specs.Prelude.{◌≡◌};
-ghost use Rattle.slices.specs.Lists.{both_fit, copy_within, copy_front};
+ghost use Rattle.std.specs.Prelude.{◌≡◌, ◌+◌, ◌≤◌, length};
+ghost use Rattle.slices.specs.Lists.{moved, both_fit, copy_within, copy_front};
 
 // Whether n places from `to` on, and from `from` on, lie within a list of `len`.
 #[tactic(auto, using(std::proofs::lemmas::Bool::Decides::nat_tests), unfolding(crate::specs::Lists::both_fit))]
@@ -10,9 +10,17 @@ fn both_fit(len: usize, to: usize, from: usize, n: usize) -> bool
     n <= len && to.max(from) <= len - n
 }
 
-// The n elements from place `from` on, also at the places from `to` on; nothing where either run does not fit. A run at
-// its own place is left alone.
-#[tactic(auto, using(crate::proofs::Runs::copy_laws), unfolding(crate::specs::Lists::moved))]
+// The n elements from place `from` on, also at the places from `to` on.
+#[tactic(auto, unfolding(crate::specs::Lists::moved))]
+fn move_run<T: Copy>(xs: &mut [T], to: usize, from: usize, n: usize)
+    requires { (to + n ≤ length xs.old) × (from + n ≤ length xs.old) }
+    ensures { xs.new ≡ moved xs.old to from n }
+{
+    xs.copy_within(from..from + n, to);
+}
+
+// The same where both runs fit; nothing where either does not. A run at its own place is left alone.
+#[tactic(auto, using(crate::proofs::Runs::copy_laws))]
 pub fn copy_within<T: Copy>(xs: &mut [T], to: usize, from: usize, n: usize)
     ensures { xs.new ≡ copy_within xs.old to from n }
 {
@@ -20,7 +28,7 @@ pub fn copy_within<T: Copy>(xs: &mut [T], to: usize, from: usize, n: usize)
         return;
     }
     if both_fit(xs.len(), to, from, n) {
-        xs.copy_within(from..from + n, to);
+        move_run(xs, to, from, n);
     }
 }
 

@@ -11,9 +11,9 @@ use rbitcoin_mempool::answer::{Rate, Refusal};
 use rbitcoin_mempool::fee_analog;
 use rbitcoin_mempool::fee_analog::{AnalogHistory, End, WindowLists, WindowMemory};
 use replay_lines::digests::{Hurdles, digest, mix};
-use replay_lines::put;
 use replay_lines::question::Question;
 use replay_lines::words::{Words, at_most, part};
+use replay_lines::{Answers, put};
 use std::io::Write;
 use std::{array, io};
 
@@ -181,19 +181,25 @@ fn rate(mut words: Words) -> Result<Rate, Refusal> {
         .rate_sat_kvb(target, confidence, lists, &mut scratch[..z])
 }
 
-fn answer<W: Write>(to: &mut W, question: Question) -> io::Result<()> {
-    let mut words = question.words;
-    match question.name {
-        b"analog_lookback" => put::only(to, fee_analog::analog_lookback(words.next()) as u64),
-        b"ln_rate" => put::only(to, num::float::abs_bits(fee_analog::ln_rate(words.next()))),
-        b"lower_median" => put::only_rate(to, fee_analog::lower_median(words.list()).map(Some)),
-        b"log_quantile" => quantile(to, words),
-        b"windows" => put_windows(to, words),
-        b"rate_sat_kvb" => put::only_rate(to, rate(words)),
-        _ => put::unknown(to),
+// What answers this part's questions.
+#[derive(Clone, Copy)]
+struct Part;
+
+impl<W: Write> Answers<W> for Part {
+    fn answer(&self, to: &mut W, question: Question) -> io::Result<()> {
+        let mut words = question.words;
+        match question.name {
+            b"analog_lookback" => put::only(to, fee_analog::analog_lookback(words.next()) as u64),
+            b"ln_rate" => put::only(to, num::float::abs_bits(fee_analog::ln_rate(words.next()))),
+            b"lower_median" => put::only_rate(to, fee_analog::lower_median(words.list()).map(Some)),
+            b"log_quantile" => quantile(to, words),
+            b"windows" => put_windows(to, words),
+            b"rate_sat_kvb" => put::only_rate(to, rate(words)),
+            _ => put::unknown(to),
+        }
     }
 }
 
 fn main(rt: HostRuntime) -> io::Result<()> {
-    replay_lines::answer_all(&mut rt.stdin(), &mut rt.stdout(), answer)
+    replay_lines::answer_all(&mut rt.stdin(), &mut rt.stdout(), &Part)
 }

@@ -27,15 +27,15 @@ impl AnalogHistory {
         Ok(())
     }
 
-    // Memory as long as the capacity asks.
+    // Memory as long as the capacity asks. The product may pass u64, of a state that `check` refuses: no list is
+    // that long.
     #[tactic(auto, using(crate::proofs::Refusals::size_tests), unfolding(crate::specs::Windows::size_refusal))]
     pub fn check_sizes(&self, lent: WindowLists) -> Result<(), Refusal>
-        requires { state_refusal self.now ≡ 0 }
         ensures { let m = lent.entry in
             refusal_of result
             ≡ size_refusal self.now (length m.hurdles.now) (length m.befores.now) (length m.aheads.now) }
     {
-        let places = self.tracked * self.capacity;
+        let places = self.tracked.saturating_mul(self.capacity);
         if lent.hurdles.len() < self.capacity
             || lent.befores.len() < places
             || lent.aheads.len() < places

@@ -1,6 +1,6 @@
 // Rates that may be missing, as numbers with marks.
-ghost use Rattle.std.specs.Prelude.{◌≡◌, ◌<◌, ◌≤◌, true, length, take, slice_set, IfOk};
-ghost use Rattle.rbitcoin_mempool.specs.Rates.{given, refused_with, rate_at, marks_valid, number_of, mark_of};
+ghost use Rattle.std.specs.Prelude.{◌≡◌, ◌≤◌, true, length, take, slice_set, IfOk};
+ghost use Rattle.rbitcoin_mempool.specs.Rates.{given, refused_with, marked, rate_at, marks_valid, number_of, mark_of};
 ghost use Rattle.rbitcoin_mempool.specs.Hold.{both_have, hold_refusal};
 ghost use Rattle.rbitcoin_mempool.specs.Lists.{SameLists, rates_in};
 ghost use Rattle.rbitcoin_mempool.specs.Target.{last_there};
@@ -20,6 +20,13 @@ pub struct Marked<'a> {
 pub struct MarkedMut<'a> {
     pub numbers: &'a mut [u64],
     pub marks: &'a mut [u8],
+}
+
+// The rate of a number with its mark.
+pub fn rate_of(number: u64, mark: u8) -> Rate
+    ensures { given result ≡ marked number mark }
+{
+    if mark == 1 { Some(number) } else { None }
 }
 
 impl Marked<'_> {
@@ -59,15 +66,14 @@ impl Marked<'_> {
         Ok(())
     }
 
+    // The rate at a place. A number or a mark that a list does not have is 0, as in the definition: so past the marks
+    // there is no rate. The loops that write a list of rates read by index and `rate_of`: the tests cost them time.
     pub fn rate_at(&self, i: usize) -> Rate
-        requires { (i < length self.now.numbers.now) × (i < length self.now.marks.now) }
         ensures { given result ≡ rate_at self.now.numbers.now self.now.marks.now i }
     {
-        if self.marks[i] == 1 {
-            Some(self.numbers[i])
-        } else {
-            None
-        }
+        let number = self.numbers.get(i).copied().unwrap_or(0);
+        let mark = self.marks.get(i).copied().unwrap_or(0);
+        rate_of(number, mark)
     }
 
     // The last rate that is there among the first n.
@@ -97,14 +103,17 @@ impl MarkedMut<'_> {
         }
     }
 
-    // Writes the rate at a place: the number and 1, or 0 and 0 where it is missing.
+    // Writes the rate at a place, in each list that has it: the number and 1, or 0 and 0 where it is missing.
     pub fn put(&mut self, i: usize, rate: Rate)
-        requires { (i < length self.old.numbers.now) × (i < length self.old.marks.now) }
         ensures numbers_after { self.new.numbers.now ≡ slice_set self.old.numbers.now i (number_of (given rate)) }
         ensures marks_after { self.new.marks.now ≡ slice_set self.old.marks.now i (mark_of (given rate)) }
         ensures same_lists { SameLists self.new self.old }
     {
-        self.numbers[i] = rate.unwrap_or(0);
-        self.marks[i] = rate.is_some() as u8;
+        if i < self.numbers.len() {
+            self.numbers[i] = rate.unwrap_or(0);
+        }
+        if i < self.marks.len() {
+            self.marks[i] = rate.is_some() as u8;
+        }
     }
 }

@@ -9,7 +9,7 @@ ghost use Rattle.rbitcoin_mempool.specs.Lists.{SameLists, Aligned, args_in};
 
 use super::depths::{flow_for_depth, published_depth_rate};
 use super::hold::{hold_all, never_descends};
-use super::marked::{Marked, MarkedMut};
+use super::marked::{Marked, MarkedMut, rate_of};
 use crate::answer::{Rate, Refusal};
 
 // What the loop over depths reads: for each depth its projected, frontier and history rate; the confirm rate; and the
@@ -32,9 +32,10 @@ impl DepthLists<'_> {
         ensures { given result ≡ published_at (args_in self.now) i }
     {
         let n = self.depths[i];
-        let frontier = self.frontier.rate_at(i);
-        let flow = flow_for_depth(self.projected.rate_at(i), frontier, n);
-        let history = self.history.rate_at(i);
+        let projected = rate_of(self.projected.numbers[i], self.projected.marks[i]);
+        let frontier = rate_of(self.frontier.numbers[i], self.frontier.marks[i]);
+        let history = rate_of(self.history.numbers[i], self.history.marks[i]);
+        let flow = flow_for_depth(projected, frontier, n);
         published_depth_rate(n, self.alpha, flow, frontier, history, self.confirm)
     }
 
@@ -89,7 +90,9 @@ fn publish_all(lists: &DepthLists, out: &mut MarkedMut)
     ensures same_lists { SameLists out.new out.old }
 {
     for i in 0..lists.depths.len() {
-        out.put(i, lists.published_at(i));
+        let rate = lists.published_at(i);
+        out.numbers[i] = rate.unwrap_or(0);
+        out.marks[i] = rate.is_some() as u8;
     }
 }
 

@@ -13,6 +13,7 @@ ghost use Rattle.rbitcoin_mempool.specs.Target.{fee_at_target, fee_at_target_sat
 use super::hold::never_descends;
 use super::marked::Marked;
 use crate::answer::{Rate, Refusal};
+use num::wide::{Wide, wide_divide};
 
 // Two quotes `span` blocks apart, and how far a target lies from the left one.
 #[derive(Clone, Copy)]
@@ -52,15 +53,16 @@ impl Line {
         quotient
     }
 
+    // The products and their sum in a `u128`, the division by words.
     #[tactic(auto, unfolding(crate::specs::Target::nearest_quotient))]
     fn wide(self) -> u64
         ensures { result ≡ nearest_on self.left self.right self.dist self.span }
     {
         let left = u128::from(self.left) * u128::from(self.span - self.dist);
         let numer = left + u128::from(self.right) * u128::from(self.dist);
-        let span = u128::from(self.span);
-        let up = span <= numer % span * 2;
-        u64::try_from(numer / span + u128::from(up)).unwrap_or(u64::MAX)
+        let parts = wide_divide(Wide::from(numer), self.span);
+        let up = self.span <= parts.remainder * 2;
+        u64::try_from(u128::from(parts.quotient) + u128::from(up)).unwrap_or(u64::MAX)
     }
 
     // The same, held between the two ends.

@@ -41,7 +41,7 @@ impl FeeHistory {
     }
 
     // The rows and the hashes above `height` dropped; at the largest height, those of that height itself.
-    #[tactic(auto, using(crate::proofs::CutSound::truncated), unfolding(crate::specs::History::next))]
+    #[tactic(auto, using(crate::proofs::Steps::cutting), unfolding(crate::specs::History::next))]
     pub(crate) fn truncate(&mut self, height: u32, rows: RowLists, hashes: HashLists)
         requires reach { Reach self.old (rows_seen rows) }
         requires hashes { self.old.hashes ≤ length hashes.heights.now }

@@ -81,7 +81,7 @@ impl HashMemory<'_> {
     }
 
     // The hash of a height kept, if there is one, and the newest 144 of all; how many are kept then.
-    #[tactic(auto, unfolding(crate::specs::Hashes::hash_place))]
+    #[tactic(auto, using(crate::proofs::Hashes::hash_found))]
     pub(crate) fn note(&mut self, count: usize, height: u32, hash: Option<BlockHash>) -> usize
         requires { Room (hash_list count (hashes_of self.old)) }
         ensures noted { hash_list result (hashes_of self.new)

@@ -4,7 +4,7 @@ ghost use Rattle.slices.specs.Lists.{tabulate};
 ghost use Rattle.rbitcoin_mempool.specs.Lists.{SameLists};
 ghost use Rattle.rbitcoin_mempool.specs.Rates.{rate_at, numbers_of, marks_of};
 
-use rbitcoin_mempool::fee_est::{Marked, MarkedMut};
+use rbitcoin_mempool::fee_est::{Marked, MarkedMut, rate_of};
 
 // n rates from a place on, at the front of the output: the number and 1, or 0 and 0 where it is missing.
 #[tactic(auto, using(crate::proofs::Tables::table_done))]
@@ -18,6 +18,9 @@ pub(crate) fn put_rates(out: &mut MarkedMut, held: Marked, start: usize, n: usiz
     ensures lent { SameLists out.old out.new }
 {
     for i in 0..n {
-        out.put(i, held.rate_at(start + i));
+        let at = start + i;
+        let rate = rate_of(held.numbers[at], held.marks[at]);
+        out.numbers[i] = rate.unwrap_or(0);
+        out.marks[i] = rate.is_some() as u8;
     }
 }

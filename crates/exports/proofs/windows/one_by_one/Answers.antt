@@ -1,4 +1,4 @@
--- `exports::windows::one_by_one` meets its contract: the fields are those of the answer. Assumes nothing.
+-- `exports::windows::one_by_one` meets its contract: sixteen elements are the whole array. Assumes nothing.
 use mathlib.Core.Path.{◌≡◌, sym}
 use lib.ListN.{length}
 use Rattle.exports.proofs.OneByOne.{next, end}

@@ -1,21 +1,19 @@
 -- `fee_est::publish::publish_all` meets its contract. The loop keeps `Writing`. Assumes nothing.
-use Rattle.std.proofs.Common.{ap, arith, rules}
+use Rattle.std.proofs.Common.{◌∙◌, ap, arith, rules}
 use Rattle.rbitcoin_mempool.specs.Rates.{number_of, mark_of}
+use Rattle.rbitcoin_mempool.proofs.RateLists.{number_written, mark_written}
 use Rattle.rbitcoin_mempool.proofs.Publishing.{write-start, write_step, write_end}
 use Rattle.rbitcoin_mempool.proofs.fee_est.publish.publish_all.Goals as goal
 
 pub loop-i-init : goal.loop-i-init
 loop-i-init c = record { writing = write-start _ _ _ _ c.requires.numbers_len c.requires.marks_len; same_lists = search rules }
 
-pub put-requires : goal.put-requires
-put-requires c =
-    let w = c.loop-i.invariant.writing in (omega (arith, w.out-length), omega (arith, w.marks-length))
-
 pub loop-i-preserved : goal.loop-i-preserved
 loop-i-preserved c = record {
   writing =
-      rw (c.put.ensures.numbers_after, c.put.ensures.marks_after)
-      (write_step _ _ _ _ c.loop-i.i _ _ (omega arith) c.loop-i.invariant.writing (ap number_of c.published_at.ensures) (ap mark_of c.published_at.ensures));
+      write_step _ _ _ _ c.loop-i.i _ _ (omega arith) c.loop-i.invariant.writing
+      (rw c.unwrap_or.ensures (number_written c.published_at-rate.result ∙ ap number_of c.published_at-rate.ensures))
+      (rw c.is_some.ensures (mark_written c.published_at-rate.result ∙ ap mark_of c.published_at-rate.ensures));
   same_lists = search rules;
 }
 
